@@ -1,0 +1,3 @@
+// What is read off a chart's measures.
+pub mod class;
+pub mod tokens;

@@ -1,0 +1,69 @@
+-- Laws of `Room` and `Wrote`: one text after the other, and from them to `OneText`.
+-- Assumes nothing.
+use Prim.Native.Nat.{ℕ, zero, suc, _+_, _-_, _≤_}
+use mathlib.Core.Path.{_≡_, refl, sym, ap, _∙_}
+use mathlib.Core.List.{List, [], _∷_, _++_, append-assoc, append-nil}
+use native.Mathlib.Nat.{add-zero, zero-add, add-suc, suc-add}
+use native.Mathlib.Omega.{arith}
+use lib.ListN.{length, take, drop, length-append, length-drop, drop-of-length-le}
+use lib.Seq.{sets, length-sets, sets-eq, take-all, drop-drop}
+use borrow.Rule.Slice.PartMut.{putMid}
+use Rattle.number.specs.Questions.{firstNo, filled, roomFor, OneText}
+use Rattle.number.specs.Place.{Room, Wrote}
+use Rattle.number.specs.declared.Written.{Written}
+use Rattle.number.proofs.Push.{room-yes}
+
+sets-append : (xs ys l : List ℕ) (i : ℕ) → sets (sets l i xs) (i + length xs) ys ≡ sets l i (xs ++ ys)
+sets-append [] ys l i = rw add-zero
+sets-append (x ∷ xs) ys l i = rw (add-suc, ← (suc-add i (length xs))) (sets-append xs ys _ (suc i))
+
+module _ {old : List ℕ} {at : ℕ} where
+  -- nothing written
+  pub still : Wrote old old at [] at
+  still = record { next = sym (add-zero at); bytes = refl }
+
+  module _ (xs ys : List ℕ) where
+    pub room-first : Room old at (xs ++ ys) → Room old at xs
+    room-first h = record { fits = omega (arith, length-append xs ys, h .fits) }
+
+    module _ {mid : List ℕ} {r : ℕ} (g : Wrote old mid at xs r) where
+      pub wrote-length : length mid ≡ length old
+      wrote-length = ap length (g .bytes) ∙ length-sets old at xs
+
+      pub room-next : Room old at (xs ++ ys) → Room mid r ys
+      room-next h = record { fits = omega (arith, length-append xs ys, h .fits, g .next, wrote-length) }
+
+      pub wrote : {new : List ℕ} {s : ℕ} → Wrote mid new r ys s → Wrote old new at (xs ++ ys) s
+      wrote h =
+          record {
+            next = omega (arith, length-append xs ys, g .next, h .next);
+            bytes = h .bytes ∙ rw (g .bytes, g .next) (sets-append xs ys old at);
+          }
+
+-- a text at the slice's start, which has room for it
+pub at-start : (xs old new : List ℕ) (r : ℕ) → length xs ≤ length old → Wrote old new 0 xs r → (r ≡ length xs) × (new ≡ filled old xs)
+at-start xs old new r h g = (g .next ∙ zero-add (length xs), g .bytes ∙ sets-eq xs old 0 (rw zero-add h) ∙ rw zero-add)
+
+-- what a call that was lent the part from `at` on has written there
+module _ (xs old last : List ℕ) (at : ℕ) (r : Written) (room : Room old at xs) where
+  abbrev part : List ℕ
+  part = take (length old - at) (drop at old)
+
+  whole : part ≡ drop at old
+  whole = take-all (length old - at) (drop at old) (simp length-drop (omega (arith, room .fits)))
+
+  room-had : firstNo (roomFor xs part ∷ []) ≡ 0
+  room-had = room-yes xs part (rw (whole, length-drop) (omega (arith, room .fits)))
+
+  module _ (p : OneText (firstNo (roomFor xs part ∷ [])) xs part last r) where
+    pub part-length : r .length ≡ length xs
+    part-length = ap (λ (w : Written). w .length) (rw room-had at (p .answer))
+
+    pub part-wrote : Wrote old (putMid at (length old - at) old last) at xs (at + r .length)
+    part-wrote =
+        let e : last ≡ xs ++ drop (length xs) (drop at old) = rw (room-had, whole) at (p .bytes) in
+        record {
+          next = ap (λ (n : ℕ). at + n) part-length;
+          bytes = rw (sets-eq xs old at (room .fits), e, drop-drop (length xs) at old, drop-drop (length old - at) at old, drop-of-length-le old {i = at + (length old - at)} (omega (arith, room .fits)), append-nil)
+              (sym (append-assoc (take at old) xs (drop (at + length xs) old)));
+        }

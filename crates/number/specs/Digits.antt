@@ -1,0 +1,17 @@
+-- Number writer: a number in base ten, as bytes.
+-- Assumes nothing.
+use Prim.Native.Nat.{ℕ, zero, suc, _+_, _/_, _%_}
+use mathlib.Core.Bool.{cond}
+use mathlib.Core.List.{List, [], _∷_, _++_}
+use lib.Dec.{ltb}
+
+-- the digits of n, which has at most k + 1 of them
+abbrev pub digitsIn : ℕ → ℕ → List ℕ
+digitsIn zero n = (48 + n) ∷ []
+digitsIn (suc k) n =
+    let more = digitsIn k (n / 10) ++ ((48 + n % 10) ∷ []) in
+    cond (ltb n 10) ((48 + n) ∷ []) more
+
+-- Number writer: base ten, no leading zero, 0 as "0" (n has at most n + 1 digits)
+unfoldable pub digits : ℕ → List ℕ
+digits n = digitsIn n n

@@ -1,0 +1,4 @@
+pub mod Digits
+pub mod Questions
+pub mod Place
+pub mod Pushed

@@ -1,0 +1,9 @@
+pub mod Cuts
+pub mod Words
+pub mod Shape
+pub mod Exact
+pub mod Places
+pub mod Steps
+pub mod View
+pub mod Demand
+pub mod Table

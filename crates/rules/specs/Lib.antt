@@ -1,0 +1,6 @@
+pub mod Bytes
+pub mod Chart
+pub mod Reduced
+pub mod Texts
+pub mod Calls
+pub mod Demand

@@ -1,0 +1,5 @@
+//! The original number writer, unchanged.
+
+#![allow(dead_code)]
+
+include!("../rssp/math.rs");
