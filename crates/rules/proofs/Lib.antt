@@ -6,4 +6,6 @@ pub mod Places
 pub mod Steps
 pub mod View
 pub mod Demand
+pub mod Cost
+pub mod Bound
 pub mod Table
