@@ -9,12 +9,11 @@ use lib.ListN.{replicate}
 use Rattle.number.specs.Digits.{digits}
 use Rattle.rules.specs.Bytes.{bytes}
 use Rattle.rules.specs.Chart.{counts, classOf, classes, active, tokens}
-use Rattle.rules.specs.Reduced.{pieces, Kind, sn, standard, reduced}
-use Rattle.rules.specs.Texts.{render, text}
+use Rattle.rules.specs.Reduced.{pieces, Kind, standard, reduced}
+use Rattle.rules.specs.Texts.{render, text, passKinds}
 use Rattle.rules.specs.Calls.{share, segments}
 use Rattle.rules.specs.declared.StreamCounts.{StreamCounts}
 use Rattle.rules.specs.declared.StreamSegment.{StreamSegment}
-use Rattle.rules.specs.declared.BreakdownMode.the-variants as Mode
 use Rattle.rules.specs.declared.StreamBreakdownLevel.the-variants as Level
 
 pub data Row : Type 0 where
@@ -28,7 +27,7 @@ abbrev printed : List ℕ → List ℕ → List String → Row
 printed m ns ts = row m ns (map bytes ts)
 
 abbrev kinds : List Kind
-kinds = sn Mode.Detailed ∷ sn Mode.Partial ∷ sn Mode.Simplified ∷ standard Level.Detailed ∷ standard Level.Partial ∷ standard Level.Simple ∷ standard Level.Total ∷ []
+kinds = passKinds ++ (standard Level.Total ∷ [])
 
 -- the row by the definitions
 pub computed : Row → Row

@@ -2,12 +2,15 @@
 -- Assumes nothing.
 use Prim.Native.Nat.{ℕ, zero, suc}
 use mathlib.Core.Bool.{Bool, true, false, cond}
-use mathlib.Core.List.{List, [], _∷_, _++_}
+use mathlib.Core.List.{List, [], _∷_, _++_, map}
 use lib.Dec.{eqb}
+use lib.ListN.{length}
 use Rattle.number.specs.Digits.{digits}
 use Rattle.rules.specs.Bytes.{bytes}
 use Rattle.rules.specs.Chart.{classes}
 use Rattle.rules.specs.Reduced.{Sign, dash, slash, bar, Item, run, gap, sign, sum, Kind, sn, standard, reduced}
+use Rattle.rules.specs.declared.BreakdownMode.the-variants as Mode
+use Rattle.rules.specs.declared.StreamBreakdownLevel.the-variants as Level
 
 -- what stands on both sides of a run's length, by its class
 abbrev pub mark : ℕ → List ℕ
@@ -61,3 +64,21 @@ render (standard l) (i ∷ is) = strung part (i ∷ is)
 -- The text of a kind, of the chart with the densities m
 unfoldable pub text : Kind → List ℕ → List ℕ
 text k m = render k (reduced k (classes m))
+
+-- SN texts, standard texts, and the pass: the texts that a call writes end to end
+abbrev pub snKinds : List Kind
+snKinds = sn Mode.Detailed ∷ sn Mode.Partial ∷ sn Mode.Simplified ∷ []
+
+abbrev pub standardKinds : List Kind
+standardKinds = standard Level.Detailed ∷ standard Level.Partial ∷ standard Level.Simple ∷ []
+
+abbrev pub passKinds : List Kind
+passKinds = snKinds ++ standardKinds
+
+abbrev pub endToEnd : List Kind → List ℕ → List ℕ
+endToEnd [] m = []
+endToEnd (k ∷ ks) m = text k m ++ endToEnd ks m
+
+-- the length of each
+abbrev pub lengthsOf : List Kind → List ℕ → List ℕ
+lengthsOf ks m = map (λ k. length (text k m)) ks
