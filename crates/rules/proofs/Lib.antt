@@ -6,6 +6,7 @@ pub mod Places
 pub mod Steps
 pub mod View
 pub mod Demand
+pub mod Domain
 pub mod Cost
 pub mod Bound
 pub mod Table
