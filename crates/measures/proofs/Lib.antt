@@ -1,1 +1,13 @@
 pub mod Stepping
+pub mod Stretch
+pub mod Part
+pub mod Counted
+pub mod Tallied
+pub mod Table
+pub mod Going
+pub mod Adding
+pub mod Numbered
+pub mod Written
+pub mod Shared
+pub mod Same
+pub mod Answers

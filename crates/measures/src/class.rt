@@ -25,17 +25,11 @@ pub fn categorize_measure_density(d: u32) -> RunDensity
 pub fn class_of(d: u32) -> u8
     ensures { λ r. ⌜ r ≡ classOf d ⌝ }
 {
-    if d < 16 {
-        return 0;
+    match categorize_measure_density(d) {
+        RunDensity::Break => 0,
+        RunDensity::Run16 => 1,
+        RunDensity::Run20 => 2,
+        RunDensity::Run24 => 3,
+        RunDensity::Run32 => 4,
     }
-    if d < 20 {
-        return 1;
-    }
-    if d < 24 {
-        return 2;
-    }
-    if d < 32 {
-        return 3;
-    }
-    4
 }

@@ -1,3 +1,8 @@
 // What is read off a chart's measures.
+pub mod active;
+pub mod alike;
 pub mod class;
+pub mod counts;
+pub mod scan;
+pub mod share;
 pub mod tokens;

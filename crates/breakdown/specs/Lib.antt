@@ -1,0 +1,4 @@
+pub mod Put
+pub mod Source
+pub mod Sn
+pub mod Standard

@@ -1,0 +1,27 @@
+// The text of level Total, of the number of stream measures.
+use crate::put::{put_bytes, put_no_streams};
+use number::{digit_count, put_u64};
+ghost use mathlib.Core.Path.{_≡_};
+ghost use lib.ListN.{length};
+ghost use Rattle.number.specs.Place.{Room, Wrote};
+ghost use Rattle.breakdown.specs.Standard.{totalText};
+
+pub fn total_text(streams: u64, out: &mut [u8], at: usize) -> usize
+    requires { ⌜ Room (now out) at (totalText streams) ⌝ }
+    ensures { λ r. ⌜ Wrote (now (out .entry)) (now (out .exit)) at (totalText streams) r ⌝ }
+{
+    if streams == 0 {
+        return put_no_streams(out, at);
+    }
+    let a = put_u64(out, at, streams);
+    put_bytes(out, a, b" Total")
+}
+
+pub fn total_length(streams: u64) -> usize
+    ensures { λ r. ⌜ r ≡ length (totalText streams) ⌝ }
+{
+    if streams == 0 {
+        return 11;
+    }
+    digit_count(streams) + 6
+}

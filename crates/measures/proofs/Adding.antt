@@ -1,0 +1,103 @@
+-- The loop of `add_up`, as lists: each sum, with what the tokens not yet read hold, is what all hold.
+-- Assumes nothing.
+use Prim.Native.Nat.{ℕ, zero, suc, _+_, _<_, _≤_}
+use mathlib.Core.Path.{_≡_, refl}
+use mathlib.Core.Bool.{false, cond}
+use mathlib.Core.List.{List, [], _∷_}
+use native.Mathlib.Nat.{not-suc-le-zero, le-of-suc-le-suc}
+use native.Mathlib.Numerals.{add-one}
+use native.Mathlib.Omega.{arith}
+use lib.Dec.{eqb, ltb}
+use lib.ListN.{length, drop, getD}
+use borrow.Author.Tests.{ne-eqb}
+use Rattle.rules.specs.Chart.{Token, token, wideGaps}
+use Rattle.number.proofs.Split.{split}
+use Rattle.measures.specs.Sums.{held, wideOf, sumsOf}
+use Rattle.measures.specs.Scan.{paired, total, Paired}
+use Rattle.measures.proofs.Counted.{held-most, wide-most}
+
+-- the token at i, and those after it
+next : (cs ns : List ℕ) (i : ℕ) → length cs ≡ length ns → i < length cs → drop i (paired cs ns) ≡ token (getD cs i 0) (getD ns i 0) false ∷ drop (suc i) (paired cs ns)
+next [] ns i e h = absurd (not-suc-le-zero h)
+next (c ∷ cs) [] i e h = absurd (omega arith)
+next (c ∷ cs) (n ∷ ns) zero e h = refl
+next (c ∷ cs) (n ∷ ns) (suc i) e h = next cs ns i (omega arith) (le-of-suc-le-suc h)
+
+none-left : (cs ns : List ℕ) (i : ℕ) → length cs ≤ i → drop i (paired cs ns) ≡ []
+none-left [] ns zero h = refl
+none-left [] ns (suc i) h = refl
+none-left (c ∷ cs) ns zero h = absurd (not-suc-le-zero h)
+none-left (c ∷ cs) [] (suc i) h = refl
+none-left (c ∷ cs) (n ∷ ns) (suc i) h = none-left cs ns i (le-of-suc-le-suc h)
+
+total-drop : (i : ℕ) (ts : List Token) → total (drop i ts) ≤ total ts
+total-drop zero ts = omega arith
+total-drop (suc i) [] = omega arith
+total-drop (suc i) (token d n s ∷ ts) = let h = total-drop i ts in omega arith
+
+-- one more token
+module _ (x n v all : ℕ) (ts : List Token) where
+  more : (k : ℕ) → v + held k (token x n false ∷ ts) ≡ all → cond (eqb k x) (v + n) v + held k ts ≡ all
+  more k e = split (eqb k x) (λ q. rw q (omega (arith, rw q at e))) (λ q. rw q (rw q at e))
+
+wide-more : (x n v all : ℕ) (ts : List Token) → v + wideGaps (token x n false ∷ ts) ≡ all → cond (eqb 0 x) (v + wideOf n) v + wideGaps ts ≡ all
+wide-more zero n v all ts e = split (ltb n 2) (λ q. rw q (omega (arith, rw q at e))) (λ q. rw q (omega (arith, rw q at e)))
+wide-more (suc x) n v all ts e = rw (ne-eqb 0 (suc x) (omega arith)) e
+
+module _ (cs ns : List ℕ) (w : Paired cs ns) where
+  abbrev ts : List Token
+  ts = paired cs ns
+
+  pub record Adding (a b c d e f i : ℕ) : Type 0 where
+    pub one : a + held 1 (drop i ts) ≡ held 1 ts
+    pub two : b + held 2 (drop i ts) ≡ held 2 ts
+    pub three : c + held 3 (drop i ts) ≡ held 3 ts
+    pub four : d + held 4 (drop i ts) ≡ held 4 ts
+    pub breaks : e + held 0 (drop i ts) ≡ held 0 ts
+    pub gaps : f + wideGaps (drop i ts) ≡ wideGaps ts
+    pub within : i ≤ length cs
+
+  pub starts : Adding 0 0 0 0 0 0 0
+  starts = record { one = omega arith; two = omega arith; three = omega arith; four = omega arith; breaks = omega arith; gaps = omega arith; within = omega arith }
+
+  -- a length is small
+  pub small : (i : ℕ) → i < length cs → getD ns i 0 ≤ 1048576
+  small i h =
+      let t = rw (next cs ns i (w .long) h) at (total-drop i ts) in
+      omega (arith, w .few, t)
+
+  module _ (a b c d e f i : ℕ) (g : Adding a b c d e f i) where
+    -- and so is each sum
+    pub low : (a ≤ 1048576) × (b ≤ 1048576) × (c ≤ 1048576) × (d ≤ 1048576) × (e ≤ 1048576) × (f ≤ 1048576)
+    low =
+        let h = w .few in
+        (omega (arith, held-most 1 ts), omega (arith, held-most 2 ts), omega (arith, held-most 3 ts), omega (arith, held-most 4 ts), omega (arith, held-most 0 ts), omega (arith, wide-most ts))
+
+    pub added : i < length cs →
+        let x = getD cs i 0 in
+        let n = getD ns i 0 in
+        Adding (cond (eqb 1 x) (a + n) a) (cond (eqb 2 x) (b + n) b) (cond (eqb 3 x) (c + n) c) (cond (eqb 4 x) (d + n) d) (cond (eqb 0 x) (e + n) e) (cond (eqb 0 x) (f + wideOf n) f) (i + 1)
+    added h =
+        let x = getD cs i 0 in
+        let n = getD ns i 0 in
+        let q = next cs ns i (w .long) h in
+        record {
+          one = rw add-one (more x n a (held 1 ts) (drop (suc i) ts) 1 (rw q at (g .one)));
+          two = rw add-one (more x n b (held 2 ts) (drop (suc i) ts) 2 (rw q at (g .two)));
+          three = rw add-one (more x n c (held 3 ts) (drop (suc i) ts) 3 (rw q at (g .three)));
+          four = rw add-one (more x n d (held 4 ts) (drop (suc i) ts) 4 (rw q at (g .four)));
+          breaks = rw add-one (more x n e (held 0 ts) (drop (suc i) ts) 0 (rw q at (g .breaks)));
+          gaps = rw add-one (wide-more x n f (wideGaps ts) (drop (suc i) ts) (rw q at (g .gaps)));
+          within = omega arith;
+        }
+
+    pub finished : length cs ≤ i → record { run16 = a; run20 = b; run24 = c; run32 = d; breaks = e; wide = f } ≡ sumsOf ts
+    finished h =
+        let q = none-left cs ns i h in
+        let e₁ : held 1 ts ≡ a = omega (arith, rw q at (g .one)) in
+        let e₂ : held 2 ts ≡ b = omega (arith, rw q at (g .two)) in
+        let e₃ : held 3 ts ≡ c = omega (arith, rw q at (g .three)) in
+        let e₄ : held 4 ts ≡ d = omega (arith, rw q at (g .four)) in
+        let e₅ : held 0 ts ≡ e = omega (arith, rw q at (g .breaks)) in
+        let e₆ : wideGaps ts ≡ f = omega (arith, rw q at (g .gaps)) in
+        rw (e₁, e₂, e₃, e₄, e₅, e₆)

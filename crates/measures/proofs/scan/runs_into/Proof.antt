@@ -1,0 +1,143 @@
+-- `measures::scan::runs_into` meets its contract: the loop's invariant and its steps are `Going`'s. A chain of `.before` leads from a
+-- place of the code to an earlier one.
+-- Assumes nothing.
+use Prim.Native.Nat.{ℕ, _+_, _-_, _<_}
+use mathlib.Core.Path.{_∙_, sym}
+use mathlib.Core.List.{List}
+use mathlib.Core.Logic.{⊎-elim}
+use native.Mathlib.Omega.{arith}
+use lib.ListN.{length, set, length-set}
+use borrow.Author.Needs.{needs}
+use Rattle.measures.proofs.Going.{Going, Onward, empty, starts, room, same, other, places, longC, longN, finished}
+use Rattle.measures.proofs.scan.runs_into.Statement.{statement}
+use Rattle.measures.proofs.scan.runs_into.Tie as tie
+
+abbrev Inv-loop : tie.InvT-loop
+Inv-loop m cs₀ ns₀ table c₀ n₀ k₀ i₀ cs ns c n k i = Onward m cs₀ ns₀ c₀ n₀ k₀ i₀ cs ns c n k i
+
+abbrev μ-loop : tie.MeasureT-loop
+μ-loop m cs₀ ns₀ table c₀ n₀ k₀ i₀ cs ns c n k i = length m - i
+
+-- the loop's head, over what the function's entry had in the slices
+going : (c : tie.At-loop Inv-loop μ-loop) →
+    let s = c .before .before .before .before .before .before .before .args in
+    let l = c .loop in
+    Going (s .m .now) (s .cs .now) (s .ns .now) (l .cs) (l .ns) (l .c) (l .n) (l .k) (l .i)
+going c =
+    let s = c .before .before .before .before .before .before .before in
+    c .loop .inv (s .args .cs .now) (s .args .ns .now)
+    (rw (c .before .class-at .ensures) (starts (s .args .m .now) (s .args .cs .now) (s .args .ns .now) (omega arith) (s .pre .roomC) (s .pre .roomN)))
+
+-- one more measure
+step : (c : tie.Joined2 Inv-loop μ-loop) (old new : List ℕ) →
+    let m = c .before .before .before .before .before .before .before .before .before .before .before .args .m .now in
+    let l = c .before .before .before .before .loop in
+    let d = c .before .class-at2 .result in
+    Going m old new (l .cs) (l .ns) (l .c) (l .n) (l .k) (l .i) → Going m old new (set (l .cs) (c .if2 .k) d) (set (l .ns) (c .if2 .k) (c .if2 .n)) d (c .if2 .n) (c .if2 .k) (l .i + 1)
+step c old new g =
+    let d = c .before .class-at2 .ensures in
+    ⊎-elim
+    (λ w. rw (w .1, w .2, d) (other g (omega arith) (λ q. w .0 .taken (d ∙ q))))
+    (λ w. rw (w .1, w .2, d) (same g (omega arith) (sym d ∙ w .0 .left)))
+    (c .if2 .came)
+
+-- .. has its place
+kept : (c : tie.Joined2 Inv-loop μ-loop) →
+    let l = c .before .before .before .before .loop in
+    (c .if2 .k < length (l .cs)) × (c .if2 .k < length (l .ns))
+kept c = simp length-set at (places (step c _ _ (going (c .before .before .before .before))))
+
+returns : tie.Need-returns Inv-loop μ-loop
+returns c = empty (c .before .before .before .before .args .m .now) _ _ (c .if1 .taken)
+
+shared-slice-read-class-at : tie.Need-shared-slice-read-class-at Inv-loop μ-loop
+shared-slice-read-class-at c = search needs
+
+class-at-requires : tie.Need-class-at-requires Inv-loop μ-loop
+class-at-requires c κs = search needs
+
+slice-write-cs : tie.Need-slice-write-cs Inv-loop μ-loop
+slice-write-cs c =
+    let s = c .before .before .before .before .before .before in
+    omega (arith, room (s .args .m .now) (s .args .cs .now) (s .args .ns .now) (omega arith) (s .pre .roomC) (s .pre .roomN))
+
+slice-write-ns : tie.Need-slice-write-ns Inv-loop μ-loop
+slice-write-ns c =
+    let s = c .before .before .before .before .before .before in
+    omega (arith, room (s .args .m .now) (s .args .cs .now) (s .args .ns .now) (omega arith) (s .pre .roomC) (s .pre .roomN))
+
+loop-holds : tie.Need-loop-holds Inv-loop μ-loop
+loop-holds c = λ old new g. g
+
+mul-class-at : tie.Need-mul-class-at Inv-loop μ-loop
+mul-class-at c = search needs
+
+shared-slice-read-class-at-2 : tie.Need-shared-slice-read-class-at-2 Inv-loop μ-loop
+shared-slice-read-class-at-2 c = search needs
+
+class-at-requires-2 : tie.Need-class-at-requires-2 Inv-loop μ-loop
+class-at-requires-2 c κs = search needs
+
+add-n : tie.Need-add-n Inv-loop μ-loop
+add-n c = let g = going (c .before .before .before) in omega arith
+
+add-k : tie.Need-add-k Inv-loop μ-loop
+add-k c = let g = going (c .before .before .before .before) in omega arith
+
+slice-write-cs-2 : tie.Need-slice-write-cs-2 Inv-loop μ-loop
+slice-write-cs-2 c = kept c .0
+
+mul-ns : tie.Need-mul-ns Inv-loop μ-loop
+mul-ns c = let g = step (c .before) _ _ (going (c .before .before .before .before .before)) in omega arith
+
+slice-write-ns-2 : tie.Need-slice-write-ns-2 Inv-loop μ-loop
+slice-write-ns-2 c = kept (c .before) .1
+
+add-i : tie.Need-add-i Inv-loop μ-loop
+add-i c = search needs
+
+loop-less : tie.Need-loop-less Inv-loop μ-loop
+loop-less c = search needs
+
+loop-again : tie.Need-loop-again Inv-loop μ-loop
+loop-again c = λ old new g. step (c .before) old new (c .before .before .before .before .before .loop .inv old new g)
+
+add-result : tie.Need-add-result Inv-loop μ-loop
+add-result c = let g = going (c .before) in omega arith
+
+same-length : tie.Need-same-length Inv-loop μ-loop
+same-length c = longC (going (c .before))
+
+same-length-2 : tie.Need-same-length-2 Inv-loop μ-loop
+same-length-2 c = longN (going (c .before))
+
+returns-2 : tie.Need-returns-2 Inv-loop μ-loop
+returns-2 c = finished (going (c .before)) (c .loop-test .left)
+
+pub runs-into-spec : {M : Type 1} → statement M
+runs-into-spec =
+    tie.close
+    (tie.spec
+    Inv-loop
+    μ-loop
+    returns
+    shared-slice-read-class-at
+    class-at-requires
+    slice-write-cs
+    slice-write-ns
+    loop-holds
+    mul-class-at
+    shared-slice-read-class-at-2
+    class-at-requires-2
+    add-n
+    add-k
+    slice-write-cs-2
+    mul-ns
+    slice-write-ns-2
+    add-i
+    loop-less
+    loop-again
+    add-result
+    same-length
+    same-length-2
+    returns-2)

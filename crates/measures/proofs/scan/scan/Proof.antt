@@ -1,0 +1,91 @@
+-- `measures::scan::scan` meets its contract.
+-- Assumes nothing.
+use mathlib.Core.Path.{refl, sym, ap, _∙_}
+use native.Mathlib.Omega.{arith}
+use lib.Seq.{length-take-le}
+use borrow.Author.Needs.{needs}
+use Rattle.rules.specs.Chart.{classOf}
+use Rattle.measures.specs.Sums.{sumsOf}
+use Rattle.measures.proofs.Part.{part-within, part-runs}
+use Rattle.measures.proofs.Written.{withinC, withinN, back, pairs}
+use Rattle.measures.proofs.scan.scan.Statement.{statement}
+use Rattle.measures.proofs.scan.scan.Tie as tie
+
+lead-in-requires : tie.Need-lead-in-requires
+lead-in-requires c κs = search needs
+
+active-behind-requires : tie.Need-active-behind-requires
+active-behind-requires c κs = search needs
+
+runs-into-requires : tie.Need-runs-into-requires
+unfolding classOf
+runs-into-requires c κs =
+    let s = c .before .before .before .before .before .before .before .before in
+    let e = c .before .before .before .active-behind .ensures in
+    let ts = part-runs (s .args .m .now) _ e in
+    record {
+      few = rw e (omega (arith, part-within (s .args .m .now), s .pre .few));
+      roomC = rw ts (s .pre .roomC);
+      roomN = rw ts (s .pre .roomN);
+      right = refl;
+    }
+
+slice-reshare-prefix-add-up : tie.Need-slice-reshare-prefix-add-up
+slice-reshare-prefix-add-up c = withinC (c .before .before .before .before .runs-into .ensures)
+
+slice-aggregate-add-up : tie.Need-slice-aggregate-add-up
+slice-aggregate-add-up c = sym (length-take-le _ _ (withinC (c .before .before .before .before .before .runs-into .ensures)))
+
+slice-reshare-prefix-add-up-2 : tie.Need-slice-reshare-prefix-add-up-2
+slice-reshare-prefix-add-up-2 c = withinN (c .before .before .before .before .before .runs-into .ensures)
+
+slice-aggregate-add-up-2 : tie.Need-slice-aggregate-add-up-2
+slice-aggregate-add-up-2 c = sym (length-take-le _ _ (withinN (c .before .before .before .before .before .before .runs-into .ensures)))
+
+add-up-requires : tie.Need-add-up-requires
+add-up-requires c κs =
+    let s = c .before .before .before .before .before .before .before .before .before .before .before .before .before .before .before in
+    let a = c .before .before .before .before .before .before .before .before .before .before .active-behind in
+    pairs (c .before .before .before .before .before .before .runs-into .ensures) (a .result .now) refl (rw (a .ensures) (omega (arith, part-within (s .args .m .now), s .pre .few)))
+
+counted-requires : tie.Need-counted-requires
+counted-requires c κs =
+    let s = c .before .before .before .before .before .before .before .before .before .before .before .before .before .before .before .before in
+    let a = c .before .before .before .before .before .before .before .before .before .before .before .active-behind in
+    record {
+      few = s .pre .few;
+      led = c .before .before .before .before .before .before .before .before .before .before .before .before .lead-in .ensures;
+      active = a .ensures;
+      held = c .add-up .ensures ∙ ap sumsOf (back (c .before .before .before .before .before .before .before .runs-into .ensures) (a .result .now) refl ∙ part-runs (s .args .m .now) _ (a .ensures));
+    }
+
+same-length : tie.Need-same-length
+same-length c = search needs
+
+same-length-2 : tie.Need-same-length-2
+same-length-2 c = search needs
+
+returns : tie.Need-returns
+returns c =
+    let s = c .before .before .before .before .before .before .before .before .before .before .before .before .before .before .before .before .before in
+    record {
+      counted = c .counted .ensures;
+      written = rw (part-runs (s .args .m .now) _ (c .before .before .before .before .before .before .before .before .before .before .before .before .active-behind .ensures)) at (c .before .before .before .before .before .before .before .before .runs-into .ensures);
+    }
+
+pub scan-spec : {M : Type 1} → statement M
+scan-spec =
+    tie.close
+    (tie.spec
+    lead-in-requires
+    active-behind-requires
+    runs-into-requires
+    slice-reshare-prefix-add-up
+    slice-aggregate-add-up
+    slice-reshare-prefix-add-up-2
+    slice-aggregate-add-up-2
+    add-up-requires
+    counted-requires
+    same-length
+    same-length-2
+    returns)
