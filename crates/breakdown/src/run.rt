@@ -1,6 +1,8 @@
 // One run: its length, by class bare or in marks, and a star.
-use crate::put::{byte_length, put_byte};
-use number::{digit_count, put_u64};
+use crate::put::byte_length;
+use crate::put::put_byte;
+use number::digit_count;
+use number::put_u64;
 ghost use mathlib.Core.Path.{_≡_};
 ghost use Rattle.number.specs.Place.{Room, Wrote};
 ghost use Rattle.rules.specs.Reduced.{run};

@@ -1,8 +1,13 @@
 // SN texts. The join limit says the mode: 0 detailed, 1 partial, 4 simplified.
-use crate::gap::{put_in_parens, sign_byte};
-use crate::put::{byte_length, put_byte};
-use crate::run::{put_run, run_length};
-use crate::source::{class_at, source_end, token_at};
+use crate::gap::put_in_parens;
+use crate::gap::sign_byte;
+use crate::put::byte_length;
+use crate::put::put_byte;
+use crate::run::put_run;
+use crate::run::run_length;
+use crate::source::class_at;
+use crate::source::source_end;
+use crate::source::token_at;
 use number::digit_count;
 ghost use mathlib.Core.Path.{_≡_};
 ghost use lib.ListN.{length};

@@ -1,9 +1,14 @@
 // Standard texts. Detailed: limit 0, gaps by length; partial: limit 0, signs; simple: limit 1, signs.
-use crate::gap::{put_in_parens, sign_byte};
-use crate::put::{byte_length, put_byte, put_no_streams};
+use crate::gap::put_in_parens;
+use crate::gap::sign_byte;
+use crate::put::byte_length;
+use crate::put::put_byte;
+use crate::put::put_no_streams;
 use crate::run::star_byte;
-use crate::source::{source_end, token_at};
-use number::{digit_count, put_u64};
+use crate::source::source_end;
+use crate::source::token_at;
+use number::digit_count;
+use number::put_u64;
 ghost use mathlib.Core.Path.{_≡_};
 ghost use mathlib.Core.List.{_++_};
 ghost use lib.ListN.{length};

@@ -1,6 +1,8 @@
 // The text of level Total, of the number of stream measures.
-use crate::put::{put_bytes, put_no_streams};
-use number::{digit_count, put_u64};
+use crate::put::put_bytes;
+use crate::put::put_no_streams;
+use number::digit_count;
+use number::put_u64;
 ghost use mathlib.Core.Path.{_≡_};
 ghost use lib.ListN.{length};
 ghost use Rattle.number.specs.Place.{Room, Wrote};
