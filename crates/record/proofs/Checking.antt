@@ -1,0 +1,109 @@
+-- The loop of `check_fields` as lists: what is left to ask once some fields are passed. Nothing here speaks of code.
+-- Assumes nothing.
+use Prim.Native.Nat.{ℕ, zero, suc, _+_, _≤_}
+use mathlib.Core.Path.{_≡_, refl, sym, _∙_}
+use mathlib.Core.Bool.{Bool, true, false, cond}
+use mathlib.Core.List.{List}
+use native.Mathlib.Omega.{arith}
+use lib.Dec.{eqb}
+use lib.ListN.{length, drop, length-append}
+use borrow.Author.Tests.{eq-eqb, ne-eqb, eqb-true}
+use Rattle.number.specs.Questions.{accepted}
+use Rattle.number.proofs.Split.{split}
+use Rattle.record.specs.Record.{end, cut, fieldsOf, fieldNo, fieldsNo, densities, nameOf}
+use Rattle.record.specs.Steps.{FieldsChecked}
+use Rattle.record.specs.declared.check.Checked.{Checked}
+use Rattle.record.proofs.Fields.{payload, WholeAt}
+
+-- an accepted name is the first field ..
+name-first : (first : Bool) (t : ℕ) (p : List ℕ) → fieldNo first t p ≡ 0 → t ≡ 1 → first ≡ true
+unfolding fieldNo
+name-first true t p h e = refl
+name-first false t p h e = absurd (omega (arith, rw e at h))
+
+-- .. and any other accepted field has densities and is not the first
+else-densities : (first : Bool) (t : ℕ) (p : List ℕ) → fieldNo first t p ≡ 0 → (t ≡ 1 → ⊥) → (t ≡ 2) × (first ≡ false)
+unfolding fieldNo
+else-densities first t p h ne =
+    split (eqb t 2)
+    (λ e. let two = eqb-true t 2 e in (two, later first (rw two at h)))
+    (λ e. absurd (omega (arith, rw (ne-eqb t 1 ne, e) at h)))
+  where
+    later : (first : Bool) → fieldNo first 2 p ≡ 0 → first ≡ false
+    later true h = absurd (omega (arith, h))
+    later false h = refl
+
+-- a refusal's number stands
+pub refused-is : {A : Type 0} (a b : A) (k : ℕ) → (k ≡ 0 → ⊥) → accepted k a b ≡ b
+refused-is a b zero ne = absurd (ne refl)
+refused-is a b (suc k) ne = refl
+
+module _ (bytes : List ℕ) where
+  -- the fields before `at` were accepted; they have `measures` densities, and the name of `name` bytes
+  pub record Checking (at measures name : ℕ) : Type 0 where
+    pub within : at ≤ length bytes
+    pub few : measures ≤ at
+    pub asked : fieldsNo true (fieldsOf bytes) ≡ fieldsNo (eqb at 0) (fieldsOf (drop at bytes))
+    pub counted : length (densities (fieldsOf bytes)) ≡ measures + length (densities (fieldsOf (drop at bytes)))
+    pub named : length (nameOf (fieldsOf bytes)) ≡ cond (eqb at 0) (length (nameOf (fieldsOf (drop at bytes)))) name
+
+  pub starts : Checking 0 0 0
+  starts = record { within = omega arith; few = omega arith; asked = refl; counted = omega arith; named = refl }
+
+module _ {bytes : List ℕ} {at measures name : ℕ} (g : Checking bytes at measures name) where
+  refuse : (r : Checked) → r .refused ≡ fieldsNo (eqb at 0) (fieldsOf (drop at bytes)) → (r .refused ≡ 0 → ⊥) → FieldsChecked bytes r
+  refuse r e ne = record { refused = e ∙ sym (g .asked); measures = λ z. absurd (ne z); name = λ z. absurd (ne z) }
+
+  -- at the end: an empty record ..
+  pub empty : {r : Checked} → fieldsOf (drop at bytes) ≡ end → at ≡ 0 → r .refused ≡ 10 → FieldsChecked bytes r
+  empty {r} e z k = refuse r (k ∙ rw (e, eq-eqb at 0 z)) (λ f. omega arith)
+
+  -- .. or all fields accepted
+  pub done : fieldsOf (drop at bytes) ≡ end → (at ≡ 0 → ⊥) → FieldsChecked bytes (record { refused = 0; measures = measures; «name_length» = name })
+  done e ne =
+      record {
+        refused = sym (g .asked ∙ rw (e, ne-eqb at 0 ne));
+        measures = λ z. omega (arith, rw e at (g .counted));
+        name = λ z. sym (rw (ne-eqb at 0 ne) at (g .named));
+      }
+
+  pub cut-off : {r : Checked} → fieldsOf (drop at bytes) ≡ cut → r .refused ≡ 8 → FieldsChecked bytes r
+  cut-off {r} e k = refuse r (k ∙ rw e) (λ f. omega arith)
+
+  -- at a whole field
+  module _ {t s e : ℕ} (w : WholeAt bytes at t s e) {k : ℕ} (n : k ≡ fieldNo (eqb at 0) t (payload s e bytes)) where
+    pub turned-down : {r : Checked} → (k ≡ 0 → ⊥) → r .refused ≡ k → FieldsChecked bytes r
+    turned-down {r} ne f =
+        refuse r (f ∙ rw (w .fields, ← n) (sym (refused-is (fieldsNo false (fieldsOf (drop e bytes))) k k ne))) (λ z. ne (sym f ∙ z))
+
+    module _ (z : k ≡ 0) where
+      later : eqb e 0 ≡ false
+      later = ne-eqb e 0 (λ f. omega (arith, w .start, w .order))
+
+      none : fieldNo (eqb at 0) t (payload s e bytes) ≡ 0
+      none = sym n ∙ z
+
+      rest : fieldsNo true (fieldsOf bytes) ≡ fieldsNo (eqb e 0) (fieldsOf (drop e bytes))
+      rest = g .asked ∙ rw (w .fields, none, later)
+
+      pub a-name : t ≡ 1 → Checking bytes e measures (length (payload s e bytes))
+      a-name one =
+          let first = name-first (eqb at 0) t (payload s e bytes) none one in
+          record {
+            within = w .within;
+            few = omega (arith, g .few, w .start, w .order);
+            asked = rest;
+            counted = g .counted ∙ rw (w .fields, one);
+            named = g .named ∙ rw (first, later, w .fields, one);
+          }
+
+      pub some-densities : (t ≡ 1 → ⊥) → Checking bytes e (measures + length (payload s e bytes)) name
+      some-densities ne =
+          let two = else-densities (eqb at 0) t (payload s e bytes) none ne in
+          record {
+            within = w .within;
+            few = omega (arith, g .few, w .start, w .order, w .long);
+            asked = rest;
+            counted = g .counted ∙ rw (w .fields, two .0, length-append (payload s e bytes) (densities (fieldsOf (drop e bytes)))) (omega arith);
+            named = g .named ∙ rw (two .1, later);
+          }

@@ -1,0 +1,9 @@
+pub mod Fields
+pub mod Naming
+pub mod Checking
+pub mod Placing
+pub mod Reading
+pub mod Sizes
+pub mod Name
+pub mod Same
+pub mod Table

@@ -1,0 +1,50 @@
+-- From the workers' promises to that of `read_chart_record`. Nothing here speaks of code.
+-- Assumes nothing.
+use Prim.Native.Nat.{ℕ, zero, suc, _≤_, _<_}
+use mathlib.Core.Path.{_≡_, refl, sym, _∙_}
+use mathlib.Core.List.{List}
+use native.Mathlib.Omega.{arith}
+use lib.ListN.{length}
+use borrow.Author.Tests.{le-leb, lt-leb}
+use Rattle.record.specs.Record.{fieldsOf, densities, chartNo, recordNo}
+use Rattle.record.specs.Steps.{refusalOf, FieldsChecked, RoomForAll, AllPlaced}
+use Rattle.record.specs.Promises.{ReadRecord}
+use Rattle.record.specs.declared.RecordAnswer.{RecordAnswer}
+use Rattle.record.specs.declared.check.Checked.{Checked}
+use Rattle.record.proofs.Checking.{refused-is}
+
+refused : {bytes old : List ℕ} {r : RecordAnswer} (n : ℕ) → r ≡ refusalOf n → (n ≡ 0 → ⊥) → recordNo bytes old ≡ n → ReadRecord bytes old old r
+refused zero e ne h = absurd (ne refl)
+refused (suc n) e ne h = record { answer = rw h e; placed = rw h }
+
+module _ {bytes : List ℕ} {k : Checked} (g : FieldsChecked bytes k) where
+  -- a no of the fields
+  pub by-fields : {old : List ℕ} {r : RecordAnswer} → r ≡ refusalOf (k .refused) → (k .refused ≡ 0 → ⊥) → ReadRecord bytes old old r
+  unfolding recordNo
+  by-fields {old} e ne = refused (k .refused) e ne (rw (← (g .refused)) (refused-is (chartNo (densities (fieldsOf bytes)) old) (k .refused) (k .refused) ne))
+
+  module _ (z : k .refused ≡ 0) where
+    many : length (densities (fieldsOf bytes)) ≡ k .measures
+    many = sym (g .measures z)
+
+    then-chart : (old : List ℕ) → recordNo bytes old ≡ chartNo (densities (fieldsOf bytes)) old
+    unfolding recordNo
+    then-chart old = rw (sym (g .refused) ∙ z)
+
+    module _ {old : List ℕ} where
+      pub too-many : {r : RecordAnswer} → r ≡ refusalOf 1 → 1048576 < k .measures → ReadRecord bytes old old r
+      too-many e h = refused 1 e (λ f. omega arith) (then-chart old ∙ rw (many, lt-leb (k .measures) 1048576 h))
+
+      module _ (few : k .measures ≤ 1048576) where
+        pub no-place : {r : RecordAnswer} → r ≡ refusalOf 12 → length old < k .measures → ReadRecord bytes old old r
+        no-place e h =
+            refused 12 e (λ f. omega arith) (then-chart old ∙ rw (many, le-leb (k .measures) 1048576 few, lt-leb (k .measures) (length old) h))
+
+        pub has-room : k .measures ≤ length old → RoomForAll bytes old
+        has-room fits = record { fits = rw many fits }
+
+        pub accepts : {new : List ℕ} → k .measures ≤ length old → AllPlaced bytes old new
+            → ReadRecord bytes old new (record { refused = 0; measures = k .measures; «name_start» = 3; «name_length» = k .«name_length» })
+        accepts fits p =
+            let yes : recordNo bytes old ≡ 0 = then-chart old ∙ rw (many, le-leb (k .measures) 1048576 few, le-leb (k .measures) (length old) fits) in
+            record { answer = rw (yes, g .measures z, g .name z); placed = rw yes (p .placed) }

@@ -1,0 +1,49 @@
+-- Alike records are refused alike, and have equally many measures.
+-- Assumes nothing.
+use Prim.Native.Nat.{ℕ, _+_, _-_}
+use mathlib.Core.Path.{_≡_, refl, sym, ap, _∙_}
+use mathlib.Core.Bool.{Bool, true, false, cond}
+use mathlib.Core.List.{List, []}
+use native.Mathlib.Omega.{arith}
+use lib.Dec.{eqb}
+use lib.ListN.{length, length-map}
+use Rattle.number.proofs.Split.{split}
+use Rattle.rules.specs.Chart.{classOf}
+use Rattle.record.specs.Record.{Fields, end, cut, whole, fieldsOf, fieldNo, fieldsNo, densities, nameOf, recordNo}
+use Rattle.record.specs.Alike.{tags, lengths, Alike}
+use Rattle.record.proofs.Sizes.{Sized, sized}
+
+-- only a name's bytes are asked about, and only in the first field
+same-field : (first : Bool) (t : ℕ) (p q : List ℕ) → (first ≡ true → cond (eqb t 1) p [] ≡ cond (eqb t 1) q []) → fieldNo first t p ≡ fieldNo first t q
+unfolding fieldNo
+same-field true t p q h = split (eqb t 1) (λ e. rw (rw e at (h refl))) (λ e. rw e)
+same-field false t p q h = split (eqb t 1) (λ e. rw e) (λ e. rw e)
+
+never : {C : Type 0} → _≡_ {A = ℕ} 0 1 → C
+never h = absurd (omega (arith, h))
+
+same-fields : (first : Bool) (fs gs : Fields) (m n : ℕ) → Sized fs m → Sized gs n → m ≡ n → tags fs ≡ tags gs → lengths fs ≡ lengths gs
+    → (first ≡ true → nameOf fs ≡ nameOf gs) → fieldsNo first fs ≡ fieldsNo first gs
+same-fields first end end m n g h e ts ls ns = refl
+same-fields first end cut m n g h e ts ls ns = absurd (omega arith)
+same-fields first end (whole u q gs) m n g h e ts ls ns = never (cc)
+same-fields first cut end m n g h e ts ls ns = absurd (omega arith)
+same-fields first cut cut m n g h e ts ls ns = refl
+same-fields first cut (whole u q gs) m n g h e ts ls ns = never (cc)
+same-fields first (whole t p fs) end m n g h e ts ls ns = never (cc)
+same-fields first (whole t p fs) cut m n g h e ts ls ns = never (cc)
+same-fields first (whole t p fs) (whole u q gs) m n g h e ts ls ns =
+    let tag : u ≡ t = cc in
+    let long : length p ≡ length q = cc in
+    let rest = same-fields false fs gs (m - (3 + length p)) (n - (3 + length q)) (g .1) (h .1) (rw (e, long)) (cc) (cc) (λ f. never (cc)) in
+    let field = same-field first t p q (λ f. rw tag at (ns f)) in
+    rw (tag, field, rest)
+
+module _ (a b : List ℕ) (s : Alike a b) where
+  pub same-measures : length (densities (fieldsOf a)) ≡ length (densities (fieldsOf b))
+  same-measures = sym (length-map (densities (fieldsOf a)) classOf) ∙ ap length (s .charts) ∙ length-map (densities (fieldsOf b)) classOf
+
+  pub same-no : (old lent : List ℕ) → length old ≡ length lent → recordNo a old ≡ recordNo b lent
+  unfolding recordNo
+  same-no old lent h =
+      rw (same-fields true (fieldsOf a) (fieldsOf b) (length a) (length b) (sized a) (sized b) (s .long) (s .tagged) (s .sized) (λ f. s .names), same-measures, h)

@@ -1,0 +1,41 @@
+-- The rules on some records: the paper's case 12, and one of each refusal by the fields.
+-- Assumes nothing.
+use Prim.Native.Nat.{ℕ}
+use mathlib.Core.Path.{_≡_, refl}
+use mathlib.Core.List.{List, [], _∷_, map}
+use Rattle.record.specs.Record.{end, whole, fieldsOf, fieldNo, recordNo}
+
+abbrev name : List ℕ → List ℕ
+name rest = 1 ∷ 0 ∷ 1 ∷ 65 ∷ rest
+
+-- case 12
+abbrev case12 : List ℕ
+case12 = name (2 ∷ 0 ∷ 9 ∷ 16 ∷ 16 ∷ 0 ∷ 20 ∷ 20 ∷ 0 ∷ 0 ∷ 0 ∷ 16 ∷ [])
+
+pub case12-fields : fieldsOf case12 ≡ whole 1 (65 ∷ []) (whole 2 (16 ∷ 16 ∷ 0 ∷ 20 ∷ 20 ∷ 0 ∷ 0 ∷ 0 ∷ 16 ∷ []) end)
+unfolding fieldsOf
+case12-fields = refl
+
+pub case12-accepted : recordNo case12 (0 ∷ 0 ∷ 0 ∷ 0 ∷ 0 ∷ 0 ∷ 0 ∷ 0 ∷ 0 ∷ []) ≡ 0
+unfolding fieldsOf fieldNo recordNo
+case12-accepted = refl
+
+-- records that are refused ..
+abbrev bad : List (List ℕ)
+bad =
+    (1 ∷ 0 ∷ []) ∷  -- a head is cut
+    name (2 ∷ 0 ∷ 2 ∷ 16 ∷ []) ∷  -- a payload is cut
+    name (3 ∷ 0 ∷ 0 ∷ []) ∷  -- an unknown tag
+    [] ∷  -- an empty file
+    (2 ∷ 0 ∷ 0 ∷ []) ∷  -- no name first
+    name (name []) ∷  -- a second name
+    (1 ∷ 0 ∷ 0 ∷ []) ∷  -- an empty name
+    (1 ∷ 0 ∷ 1 ∷ 31 ∷ []) ∷  -- a byte below 20
+    (1 ∷ 0 ∷ 1 ∷ 127 ∷ []) ∷  -- a byte above 7E
+    name (2 ∷ 0 ∷ 1 ∷ 16 ∷ []) ∷  -- no place for a density
+    []
+
+-- .. and their numbers, where no place is lent
+pub refusals : map (λ r. recordNo r []) bad ≡ 8 ∷ 8 ∷ 9 ∷ 10 ∷ 10 ∷ 10 ∷ 11 ∷ 11 ∷ 11 ∷ 12 ∷ []
+unfolding fieldsOf fieldNo recordNo
+refusals = refl

@@ -1,0 +1,4 @@
+pub mod Record
+pub mod Steps
+pub mod Promises
+pub mod Alike

@@ -1,0 +1,41 @@
+-- What the reader's workers ask and answer.
+-- Assumes nothing.
+use Prim.Native.Nat.{ℕ, _+_, _≤_}
+use mathlib.Core.Path.{_≡_}
+use mathlib.Core.Bool.{true}
+use mathlib.Core.List.{List}
+use lib.ListN.{length}
+use Rattle.number.specs.Questions.{filled}
+use Rattle.record.specs.Record.{Fields, end, cut, whole, fieldsOf, fieldsNo, densities, nameOf}
+use Rattle.record.specs.declared.field.Field.{Field}
+use Rattle.record.specs.declared.field.Field.the-variants.{End, Cut, Whole}
+use Rattle.record.specs.declared.check.Checked.{Checked}
+use Rattle.record.specs.declared.RecordAnswer.{RecordAnswer}
+
+-- the first of some fields, which begin at the place `at`: a whole one by tag, first place of its payload and place behind it
+abbrev pub firstAt : ℕ → Fields → Field
+firstAt at end = End
+firstAt at cut = Cut
+firstAt at (whole tag payload fs) = Whole tag (at + 3) (at + 3 + length payload)
+
+-- a place of some bytes, their end included
+pub record Place (bytes : List ℕ) (at : ℕ) : Type 0 where
+  pub within : at ≤ length bytes
+
+-- check_fields: the first no of all fields; where there is none, how many densities they have, and the name's length
+pub record FieldsChecked (bytes : List ℕ) (r : Checked) : Type 0 where
+  pub refused : r .refused ≡ fieldsNo true (fieldsOf bytes)
+  pub measures : r .refused ≡ 0 → r .measures ≡ length (densities (fieldsOf bytes))
+  pub name : r .refused ≡ 0 → r .«name_length» ≡ length (nameOf (fieldsOf bytes))
+
+-- place_densities: room for all densities ..
+pub record RoomForAll (bytes old : List ℕ) : Type 0 where
+  pub fits : length (densities (fieldsOf bytes)) ≤ length old
+
+-- .. and where they are then
+pub record AllPlaced (bytes old new : List ℕ) : Type 0 where
+  pub placed : new ≡ filled old (densities (fieldsOf bytes))
+
+-- a refusal with the number n: all other numbers 0
+abbrev pub refusalOf : ℕ → RecordAnswer
+refusalOf n = record { refused = n; measures = 0; «name_start» = 0; «name_length» = 0 }
