@@ -1,14 +1,14 @@
 -- Demand 3 on the level of the rules. Counts, tokens, segments, steps and texts are made of a chart's classes, so charts of the same classes share them.
 -- Assumes nothing.
 use Prim.Native.Nat.{ℕ}
-use mathlib.Core.Path.{_≡_, sym, ap, _∙_}
+use mathlib.Core.Path.{_≡_, refl, sym, ap, _∙_}
 use mathlib.Core.Logic.{Iff·trans}
-use mathlib.Core.List.{List}
+use mathlib.Core.List.{List, [], _∷_}
 use lib.ListN.{length, getD, length-map, List·getD-map}
 use lib.Seq.{ext-getD}
 use Rattle.rules.specs.Chart.{classOf, classes}
 use Rattle.rules.specs.Reduced.{Kind, standard, reduced}
-use Rattle.rules.specs.Texts.{text, render}
+use Rattle.rules.specs.Texts.{text, render, endToEnd, lengthsOf}
 use Rattle.rules.specs.Demand.{SameClasses, ExactlyWhen}
 use Rattle.rules.specs.declared.StreamBreakdownLevel.the-variants as Level
 use Rattle.rules.proofs.Exact.{exactly-when}
@@ -29,6 +29,14 @@ same-length a b e = sym (length-map a classOf) ∙ ap length e ∙ length-map b 
 pub same-text : (k : Kind) (a b : List ℕ) → classes a ≡ classes b → text k a ≡ text k b
 unfolding text
 same-text k a b e = ap (λ (cs : List ℕ). render k (reduced k cs)) e
+
+pub same-texts : (ks : List Kind) (a b : List ℕ) → classes a ≡ classes b → endToEnd ks a ≡ endToEnd ks b
+same-texts [] a b e = refl
+same-texts (k ∷ ks) a b e = rw (same-text k a b e, same-texts ks a b e)
+
+pub same-lengths : (ks : List Kind) (a b : List ℕ) → classes a ≡ classes b → lengthsOf ks a ≡ lengthsOf ks b
+same-lengths [] a b e = refl
+same-lengths (k ∷ ks) a b e = rw (same-text k a b e, same-lengths ks a b e)
 
 pub exactly : (a b : List ℕ) → ExactlyWhen a b
 exactly a b =

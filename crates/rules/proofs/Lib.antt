@@ -7,6 +7,7 @@ pub mod Steps
 pub mod View
 pub mod Demand
 pub mod Domain
+pub mod Lines
 pub mod Cost
 pub mod Bound
 pub mod Table
