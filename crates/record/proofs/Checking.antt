@@ -12,7 +12,7 @@ use Rattle.number.specs.Questions.{accepted}
 use Rattle.number.proofs.Split.{split}
 use Rattle.record.specs.Record.{end, cut, fieldsOf, fieldNo, fieldsNo, densities, nameOf}
 use Rattle.record.specs.Steps.{FieldsChecked}
-use Rattle.record.specs.declared.check.Checked.{Checked}
+use Rattle.record.specs.declared.questions.Checked.{Checked}
 use Rattle.record.proofs.Fields.{payload, WholeAt}
 
 -- an accepted name is the first field ..

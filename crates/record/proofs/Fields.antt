@@ -89,16 +89,8 @@ pub record WholeAt (bytes : List ℕ) (at t s e : ℕ) : Type 0 where
   pub long : length (payload s e bytes) ≡ e - s
   pub fields : fieldsOf (drop at bytes) ≡ whole t (payload s e bytes) (fieldsOf (drop e bytes))
 
--- what the stepper's answers mean: nothing is left, bytes are left that are no field, ..
-pub is-end : (at : ℕ) (fs : Fields) → End ≡ firstAt at fs → fs ≡ end
-is-end at end a = refl
-is-end at cut a = let z : _≡_ {A = ℕ} 0 1 = cc in absurd (omega arith)
-is-end at (whole t p fs) a = let z : _≡_ {A = ℕ} 0 1 = cc in absurd (omega arith)
-
-pub is-cut : (at : ℕ) (fs : Fields) → Cut ≡ firstAt at fs → fs ≡ cut
-is-cut at end a = let z : _≡_ {A = ℕ} 0 1 = cc in absurd (omega arith)
-is-cut at cut a = refl
-is-cut at (whole t p fs) a = let z : _≡_ {A = ℕ} 0 1 = cc in absurd (omega arith)
+pub never : {C : Type 0} → _≡_ {A = ℕ} 0 1 → C
+never h = absurd (omega (arith, h))
 
 module _ (bytes : List ℕ) (at : ℕ) where
   -- the stepper's answers: at the end, ..
@@ -115,44 +107,56 @@ module _ (bytes : List ℕ) (at : ℕ) where
     short g = rw (at-head bytes at h, ← e, lt-leb n (length bytes - at - 3) g)
 
     -- .. and at a whole field
-    pub found : n ≤ length bytes - at - 3 → Whole (getD bytes at 0) (at + 3) (at + 3 + n) ≡ firstAt at (fieldsOf (drop at bytes))
-    found g =
-        let l : length (take n (drop (at + 3) bytes)) ≡ n = length-take-le n (drop (at + 3) bytes) (rw (length-drop (at + 3) bytes) (omega arith)) in
-        rw (at-head bytes at h, ← e, le-leb n (length bytes - at - 3) g, l)
+    module _ (g : n ≤ length bytes - at - 3) where
+      at-whole : fieldsOf (drop at bytes) ≡ whole (getD bytes at 0) (take n (drop (at + 3) bytes)) (fieldsOf (drop (at + 3 + n) bytes))
+      at-whole = at-head bytes at h ∙ rw (← e, le-leb n (length bytes - at - 3) g)
 
-  -- .. and a whole field is there
-  module _ (t s e : ℕ) (a : Whole t s e ≡ firstAt at (fieldsOf (drop at bytes))) where
-    not-end : firstAt at (fieldsOf (drop at bytes)) ≡ End → ⊥
-    not-end b = let z : _≡_ {A = ℕ} 0 1 = cc in omega arith
+      pub found : Whole (getD bytes at 0) (at + 3) (at + 3 + n) ≡ firstAt at (fieldsOf (drop at bytes))
+      found = rw (at-whole, length-take-le n (drop (at + 3) bytes) (rw (length-drop (at + 3) bytes) (omega arith)))
 
-    not-cut : firstAt at (fieldsOf (drop at bytes)) ≡ Cut → ⊥
-    not-cut b = let z : _≡_ {A = ℕ} 0 1 = cc in omega arith
+-- what the answers mean: nothing is left, ..
+pub is-end : (at : ℕ) (fs : Fields) → End ≡ firstAt at fs → fs ≡ end
+is-end at end a = refl
+is-end at cut a = never (cc)
+is-end at (whole t p fs) a = never (cc)
 
-    there : (n : ℕ) → n ≡ long bytes at → 3 ≤ length bytes - at → n ≤ length bytes - at - 3 → WholeAt bytes at t s e
-    there n f h g =
-        let b : Whole t s e ≡ Whole (getD bytes at 0) (at + 3) (at + 3 + n) = a ∙ sym (found n f h g) in
-        let s-is : s ≡ at + 3 = cc in
-        let e-is : e ≡ at + 3 + n = cc in
-        let n-is : n ≡ e - s = omega arith in
-        let t-is : getD bytes at 0 ≡ t = cc in
-        let q : fieldsOf (drop at bytes) ≡ whole (getD bytes at 0) (take n (drop (at + 3) bytes)) (fieldsOf (drop (at + 3 + n) bytes))
-        = at-head bytes at h ∙ rw (← f, le-leb n (length bytes - at - 3) g) in
-        record {
-          start = s-is;
-          order = omega arith;
-          within = omega arith;
-          long = length-take-le (e - s) (drop s bytes) (rw (length-drop s bytes) (omega arith));
-          fields = rw (← n-is, s-is, e-is, ← t-is) q;
-        }
+-- .. bytes are left that are no whole field, ..
+pub is-cut : (at : ℕ) (fs : Fields) → Cut ≡ firstAt at fs → fs ≡ cut
+is-cut at end a = never (cc)
+is-cut at cut a = refl
+is-cut at (whole t p fs) a = never (cc)
 
-    pub whole-at : WholeAt bytes at t s e
-    whole-at =
-        let n = long bytes at in
-        let left = length bytes - at in
-        split (leb 3 left)
-        (λ h. split (leb n (left - 3))
-        (λ g. there n refl (leb-true 3 left h) (leb-true n (left - 3) g))
-        (λ g. absurd (not-cut (sym (short n refl (leb-true 3 left h) (leb-false n (left - 3) g))))))
-        (λ h. split (leb 1 left)
-        (λ g. absurd (not-cut (sym (headless (λ z. omega (arith, leb-true 1 left g)) (leb-false 3 left h)))))
-        (λ g. absurd (not-end (sym (ended (omega (arith, leb-false 1 left g)))))))
+-- .. or a whole field is there
+module _ (bytes : List ℕ) (at t s e : ℕ) (a : Whole t s e ≡ firstAt at (fieldsOf (drop at bytes))) where
+  not-end : End ≡ firstAt at (fieldsOf (drop at bytes)) → WholeAt bytes at t s e
+  not-end b = never (cc)
+
+  not-cut : Cut ≡ firstAt at (fieldsOf (drop at bytes)) → WholeAt bytes at t s e
+  not-cut b = never (cc)
+
+  there : (n : ℕ) → n ≡ long bytes at → 3 ≤ length bytes - at → n ≤ length bytes - at - 3 → WholeAt bytes at t s e
+  there n f h g =
+      let b : Whole t s e ≡ Whole (getD bytes at 0) (at + 3) (at + 3 + n) = a ∙ sym (found bytes at n f h g) in
+      let s-is : s ≡ at + 3 = cc in
+      let e-is : e ≡ at + 3 + n = cc in
+      let n-is : n ≡ e - s = omega arith in
+      let t-is : getD bytes at 0 ≡ t = cc in
+      record {
+        start = s-is;
+        order = omega arith;
+        within = omega arith;
+        long = length-take-le (e - s) (drop s bytes) (rw (length-drop s bytes) (omega arith));
+        fields = rw (← n-is, s-is, e-is, ← t-is) (at-whole bytes at n f h g);
+      }
+
+  pub whole-at : WholeAt bytes at t s e
+  whole-at =
+      let n = long bytes at in
+      let left = length bytes - at in
+      split (leb 3 left)
+      (λ h. split (leb n (left - 3))
+      (λ g. there n refl (leb-true 3 left h) (leb-true n (left - 3) g))
+      (λ g. not-cut (short bytes at n refl (leb-true 3 left h) (leb-false n (left - 3) g))))
+      (λ h. split (leb 1 left)
+      (λ g. not-cut (headless bytes at (λ z. omega (arith, leb-true 1 left g)) (leb-false 3 left h)))
+      (λ g. not-end (ended bytes at (omega (arith, leb-false 1 left g)))))

@@ -27,17 +27,19 @@ module _ (p old : List ℕ) (at : ℕ) where
   put-starts r = record { within = omega arith; room = r .fits; long = refl; written = rw (add-zero at) still }
 
 module _ {p old new : List ℕ} {at i : ℕ} (g : Putting p old at new i) where
-  pub put-step : i < length p → Putting p old at (set new (at + i) (getD p i 0)) (i + 1)
-  put-step h =
+  one-more : i < length p → Wrote old (set new (at + i) (getD p i 0)) at (take (i + 1) p) (at + (i + 1))
+  one-more h =
       let b = getD p i 0 in
       let one : Wrote new (set new (at + i) b) (at + i) (b ∷ []) (at + (i + 1)) = record { next = omega arith; bytes = refl } in
-      let both : Wrote old (set new (at + i) b) at (take (i + 1) p) (at + (i + 1)) =
-      rw (add-one i, take-suc p i 0 h) (rw (add-one i) at (wrote (take i p) (b ∷ []) (g .written) one)) in
+      rw (add-one i, take-suc p i 0 h) (rw (add-one i) at (wrote (take i p) (b ∷ []) (g .written) one))
+
+  pub put-step : i < length p → Putting p old at (set new (at + i) (getD p i 0)) (i + 1)
+  put-step h =
       record {
         within = omega arith;
         room = g .room;
-        long = wrote-length (take (i + 1) p) [] both;
-        written = both;
+        long = wrote-length (take (i + 1) p) [] (one-more h);
+        written = one-more h;
       }
 
   pub put-done : length p ≤ i → Wrote old new at p (at + i)

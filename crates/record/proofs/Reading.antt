@@ -10,7 +10,7 @@ use Rattle.record.specs.Record.{fieldsOf, densities, chartNo, recordNo}
 use Rattle.record.specs.Steps.{refusalOf, FieldsChecked, RoomForAll, AllPlaced}
 use Rattle.record.specs.Promises.{ReadRecord}
 use Rattle.record.specs.declared.RecordAnswer.{RecordAnswer}
-use Rattle.record.specs.declared.check.Checked.{Checked}
+use Rattle.record.specs.declared.questions.Checked.{Checked}
 use Rattle.record.proofs.Checking.{refused-is}
 
 refused : {bytes old : List ℕ} {r : RecordAnswer} (n : ℕ) → r ≡ refusalOf n → (n ≡ 0 → ⊥) → recordNo bytes old ≡ n → ReadRecord bytes old old r

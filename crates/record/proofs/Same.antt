@@ -11,6 +11,7 @@ use Rattle.number.proofs.Split.{split}
 use Rattle.rules.specs.Chart.{classOf}
 use Rattle.record.specs.Record.{Fields, end, cut, whole, fieldsOf, fieldNo, fieldsNo, densities, nameOf, recordNo}
 use Rattle.record.specs.Alike.{tags, lengths, Alike}
+use Rattle.record.proofs.Fields.{never}
 use Rattle.record.proofs.Sizes.{Sized, sized}
 
 -- only a name's bytes are asked about, and only in the first field
@@ -18,9 +19,6 @@ same-field : (first : Bool) (t : ℕ) (p q : List ℕ) → (first ≡ true → c
 unfolding fieldNo
 same-field true t p q h = split (eqb t 1) (λ e. rw (rw e at (h refl))) (λ e. rw e)
 same-field false t p q h = split (eqb t 1) (λ e. rw e) (λ e. rw e)
-
-never : {C : Type 0} → _≡_ {A = ℕ} 0 1 → C
-never h = absurd (omega (arith, h))
 
 same-fields : (first : Bool) (fs gs : Fields) (m n : ℕ) → Sized fs m → Sized gs n → m ≡ n → tags fs ≡ tags gs → lengths fs ≡ lengths gs
     → (first ≡ true → nameOf fs ≡ nameOf gs) → fieldsNo first fs ≡ fieldsNo first gs

@@ -9,7 +9,7 @@ use Rattle.number.specs.Questions.{filled}
 use Rattle.record.specs.Record.{Fields, end, cut, whole, fieldsOf, fieldsNo, densities, nameOf}
 use Rattle.record.specs.declared.field.Field.{Field}
 use Rattle.record.specs.declared.field.Field.the-variants.{End, Cut, Whole}
-use Rattle.record.specs.declared.check.Checked.{Checked}
+use Rattle.record.specs.declared.questions.Checked.{Checked}
 use Rattle.record.specs.declared.RecordAnswer.{RecordAnswer}
 
 -- the first of some fields, which begin at the place `at`: a whole one by tag, first place of its payload and place behind it

@@ -1,10 +1,10 @@
 // The chart record reader.
-pub mod check;
 pub mod field;
 pub mod place;
+pub mod questions;
 
-use crate::check::check_fields;
 use crate::place::place_densities;
+use crate::questions::check_fields;
 ghost use mathlib.Core.Path.{_≡_};
 ghost use Rattle.record.specs.Steps.{refusalOf};
 ghost use Rattle.record.specs.Promises.{ReadRecord};

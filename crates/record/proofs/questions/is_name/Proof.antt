@@ -1,11 +1,11 @@
--- `record::check::is_name` meets its contract.
+-- `record::questions::is_name` meets its contract.
 -- Assumes nothing.
 use Prim.Native.Nat.{_-_}
 use lib.ListN.{length}
 use borrow.Author.Needs.{needs}
 use Rattle.record.proofs.Naming.{name-empty, name-long, Naming, starts, done, below, above, step}
-use Rattle.record.proofs.check.is_name.Statement.{statement}
-use Rattle.record.proofs.check.is_name.Tie as tie
+use Rattle.record.proofs.questions.is_name.Statement.{statement}
+use Rattle.record.proofs.questions.is_name.Tie as tie
 
 abbrev Inv-loop : tie.InvT-loop
 Inv-loop payload i₀ i = Naming payload i

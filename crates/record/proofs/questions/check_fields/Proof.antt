@@ -1,4 +1,4 @@
--- `record::check::check_fields` meets its contract.
+-- `record::questions::check_fields` meets its contract.
 -- Assumes nothing.
 use Prim.Native.Nat.{_-_}
 use mathlib.Core.Path.{sym, _∙_}
@@ -7,8 +7,8 @@ use lib.ListN.{length}
 use borrow.Author.Needs.{needs}
 use Rattle.record.proofs.Fields.{WholeAt, is-end, is-cut, whole-at}
 use Rattle.record.proofs.Checking.{Checking, starts, empty, done, cut-off, turned-down, a-name, some-densities}
-use Rattle.record.proofs.check.check_fields.Statement.{statement}
-use Rattle.record.proofs.check.check_fields.Tie as tie
+use Rattle.record.proofs.questions.check_fields.Statement.{statement}
+use Rattle.record.proofs.questions.check_fields.Tie as tie
 
 abbrev Inv-loop : tie.InvT-loop
 Inv-loop bytes at₀ measures₀ name-length₀ at measures name-length = Checking bytes at measures name-length

@@ -1,11 +1,11 @@
--- `record::check::field_no` meets its contract.
+-- `record::questions::field_no` meets its contract.
 -- Assumes nothing.
 use mathlib.Core.Path.{sym, _∙_}
 use borrow.Author.Tests.{eq-eqb, ne-eqb, not-true, not-false}
 use Rattle.record.specs.Record.{fieldNo}
 use borrow.Author.Needs.{needs}
-use Rattle.record.proofs.check.field_no.Statement.{statement}
-use Rattle.record.proofs.check.field_no.Tie as tie
+use Rattle.record.proofs.questions.field_no.Statement.{statement}
+use Rattle.record.proofs.questions.field_no.Tie as tie
 
 returns : tie.Need-returns
 unfolding fieldNo
