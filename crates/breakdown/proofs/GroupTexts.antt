@@ -1,20 +1,20 @@
 -- An SN text, group by group.
 -- Assumes nothing.
-use Prim.Native.Nat.{ℕ, zero, suc, _+_, _*_, _<_, _≤_}
-use mathlib.Core.Path.{_≡_, refl, ap, _∙_}
+use Prim.Native.Nat.{ℕ, zero, suc, _+_, _<_, _≤_}
+use mathlib.Core.Path.{_≡_, refl}
 use mathlib.Core.Bool.{Bool}
 use mathlib.Core.Logic.{_≢_}
 use mathlib.Core.List.{List, [], _∷_, _++_, map, append-assoc, append-nil}
 use native.Mathlib.Omega.{arith}
-use lib.ListN.{length, length-append}
 use Rattle.number.specs.Place.{Room, Wrote}
 use Rattle.rules.specs.Bytes.{bytes}
 use Rattle.rules.specs.Chart.{Token, token}
 use Rattle.rules.specs.Reduced.{Item, item}
 use Rattle.rules.specs.Texts.{word, strung}
+use Rattle.breakdown.specs.Put.{Measured}
 use Rattle.breakdown.specs.Source.{end}
 use Rattle.breakdown.specs.Sn.{breakItem, groupText, textFrom, snText, breakTokens, NextGroup}
-use Rattle.breakdown.proofs.Loop.{Going, room, step}
+use Rattle.breakdown.proofs.Loop.{Going, room, step, Counted, counted}
 use Rattle.breakdown.proofs.Reading.{past-end}
 
 spaced-from : (m : ℕ) (is : List Item) → strung (λ y. bytes " " ++ word y) is ≡ textFrom (suc m) is
@@ -33,8 +33,8 @@ module _ {m cs ns : List ℕ} {k i c n : ℕ} {s : Bool} {g next : ℕ} (h : Nex
   next-chunk : snText k m cs ns i ≡ groupText i k c n s g ++ snText k m cs ns next
   next-chunk = rw (h .rest) (chunk i k c n s g next _ (h .run) (h .on))
 
-  pub sn-sum : length (snText k m cs ns i) ≡ length (groupText i k c n s g) + length (snText k m cs ns next)
-  sn-sum = ap length next-chunk ∙ length-append (groupText i k c n s g) (snText k m cs ns next)
+  pub sn-counted : {total r : ℕ} → Counted (snText k m cs ns) total i → Measured (groupText i k c n s g) 47 r → Counted (snText k m cs ns) (total + r) next
+  sn-counted d r = counted (snText k m cs ns) d (groupText i k c n s g) next-chunk r (h .on)
 
   module _ {old : List ℕ} {at : ℕ} {out : List ℕ} {place : ℕ} (d : Going (snText k m cs ns) old at out place i) where
     pub sn-room : Room old at (snText k m cs ns 0) → Room out place (groupText i k c n s g)

@@ -4,14 +4,14 @@ use Prim.Native.Nat.{ℕ, zero, suc, _+_, _*_, _<_, _≤_}
 use mathlib.Core.Path.{_≡_, refl, sym, ap, _∙_}
 use mathlib.Core.Bool.{Bool, true, false, _&&_}
 use mathlib.Core.Logic.{_≢_, _⊎_, ⊎-elim}
-use mathlib.Core.List.{List, [], _∷_, _++_, append-nil}
+use mathlib.Core.List.{List, [], _∷_, _++_}
 use native.Mathlib.Omega.{arith}
 use lib.Dec.{eqb}
 use Rattle.number.proofs.Split.{split}
 use Rattle.rules.specs.Chart.{Token, token, class, len}
 use Rattle.rules.specs.Reduced.{joins, joinFrom, short, absorb, dropOnes}
 use Rattle.rules.proofs.Steps.{joins-yes, joins-class, joins-long, short-yes, short-one, short-long, join-on, simple-run, simple-soak, simple-not, drop-run, drop-one, drop-not}
-use Rattle.breakdown.specs.Source.{from, end, Behind, Alternates, Within, Opens, NextToken, firstClass}
+use Rattle.breakdown.specs.Source.{from, end, Behind, Within, Opens, NextToken, firstClass}
 use Rattle.breakdown.specs.Sn.{shown, breakTokens, BeforeBreak, Apart, NextGroup}
 use Rattle.breakdown.proofs.Reading.{past-end, opens-run, Broken, break-at}
 
@@ -89,7 +89,8 @@ pub record Pending (m cs ns : List ℕ) (k i c n : ℕ) (s : Bool) (j : ℕ) : T
   pub on : i < j
   pub within : j ≤ end m cs
 
-pub starts : {m cs ns : List ℕ} (k : ℕ) {i c n j : ℕ} → Opens m cs ns i → NextToken m cs ns i c n j → n < 4294967296 → Pending m cs ns k i c n false j
+pub starts : {m cs ns : List ℕ} (k : ℕ) {i c n j : ℕ} → Opens m cs ns i
+    → NextToken m cs ns i c n j → n < 4294967296 → Pending m cs ns k i c n false j
 starts k o t b =
     let a = rw (t .rest) at (o .alternates) in
     record {
@@ -137,11 +138,13 @@ module _ {m cs ns : List ℕ} {k i c n : ℕ} {s : Bool} {j : ℕ} (p : Pending 
     pub behind-break : Within m cs next
     behind-break = broken .inside
 
-    pub parted : {e r : ℕ} {t : Bool} {h last : ℕ} → (k < g) ⊎ (firstClass (from m cs ns next) ≢ c) → Apart k c n s g next e r t h last → NextGroup m cs ns k i e r t h last
+    pub parted : {e r : ℕ} {t : Bool} {h last : ℕ} → (k < g) ⊎ (firstClass (from m cs ns next) ≢ c)
+        → Apart k c n s g next e r t h last → NextGroup m cs ns k i e r t h last
     parted a f =
+        let e = after-apart k (token c n s) (p .run) (token 0 g false) (from m cs ns next) (broken .run) a in
         rw (f .place)
         (record {
-          rest = p .rest ∙ ap (after k (token c n s)) two ∙ after-apart k (token c n s) (p .run) (token 0 g false) (from m cs ns next) (broken .run) a ∙ rw (f .shows);
+          rest = p .rest ∙ ap (after k (token c n s)) two ∙ e ∙ rw (f .shows);
           run = rw (f .class) (p .run);
           on = omega (arith, p .on, u .on);
           within = u .within;

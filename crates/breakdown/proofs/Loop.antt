@@ -5,7 +5,7 @@ use mathlib.Core.Path.{_≡_, refl, ap, _∙_}
 use mathlib.Core.List.{List, [], _∷_, _++_, append-assoc, append-nil}
 use native.Mathlib.Numerals.{add-one}
 use native.Mathlib.Omega.{arith}
-use lib.ListN.{length, drop, getD}
+use lib.ListN.{length, drop, getD, length-append}
 use lib.Seq.{drop-cons}
 use Rattle.number.specs.Place.{Room, Wrote}
 use Rattle.breakdown.specs.Put.{Measured}
@@ -30,7 +30,12 @@ module _ (textAt : ℕ → List ℕ) (old : List ℕ) (at : ℕ) where
       room h = room-first chunk (textAt next) (room-next (g .done) (chunk ++ textAt next) (g .sofar) (rw (← (g .whole), e) at h))
 
       pub step : {new : List ℕ} {r : ℕ} → Wrote out new place chunk r → Going new r next
-      step h = record { done = g .done ++ chunk; whole = append-assoc (g .done) chunk (textAt next) ∙ rw (← e) (g .whole); sofar = wrote (g .done) chunk (g .sofar) h }
+      step h =
+          record {
+            done = g .done ++ chunk;
+            whole = append-assoc (g .done) chunk (textAt next) ∙ rw (← e) (g .whole);
+            sofar = wrote (g .done) chunk (g .sofar) h;
+          }
 
     pub finished : textAt i ≡ [] → Wrote old out at (textAt 0) place
     finished e = rw (← (g .whole), e, append-nil) (g .sofar)
@@ -49,8 +54,12 @@ module _ (textAt : ℕ → List ℕ) where
   counted-starts = record { sum = omega arith; small = omega arith }
 
   module _ {total i : ℕ} (d : Counted total i) where
-    pub counted : {chunk : List ℕ} {r next : ℕ} → length (textAt i) ≡ length chunk + length (textAt next) → Measured chunk 47 r → i < next → Counted (total + r) next
-    counted e h l = record { sum = omega (arith, d .sum, h .number); small = omega (arith, d .small, h .short) }
+    pub counted : (chunk : List ℕ) {r next : ℕ} → textAt i ≡ chunk ++ textAt next → Measured chunk 47 r → i < next → Counted (total + r) next
+    counted chunk {next = next} e h l =
+        record {
+          sum = omega (arith, d .sum, h .number, ap length e, length-append chunk (textAt next));
+          small = omega (arith, d .small, h .short);
+        }
 
     pub counted-all : textAt i ≡ [] → total ≡ length (textAt 0)
     counted-all e = omega (arith, d .sum, ap length e)

@@ -10,11 +10,11 @@ use native.Mathlib.Nat.{add-suc, suc-ne-zero}
 use native.Mathlib.Numerals.{add-one}
 use native.Mathlib.Omega.{arith}
 use lib.Dec.{eqb, leb}
-use lib.ListN.{length, length-map, length-take, length-drop}
+use lib.ListN.{length, length-take, length-drop}
 use borrow.Author.Tests.{leb-true, leb-false, ne-eqb, eqb-true, eqb-false}
 use Rattle.number.proofs.Each.{Each, none, _&_}
 use Rattle.number.proofs.Split.{split}
-use Rattle.rules.specs.Chart.{classOf, classes, Token, token, class, len, runsFrom, runs, flat, toLast, active, activePart, tokens, streams}
+use Rattle.rules.specs.Chart.{classes, Token, token, class, len, runsFrom, runs, flat, toLast, active, activePart, tokens, streams}
 use Rattle.rules.specs.Reduced.{joins, joinFrom, join, short, absorb, item, Item, sn, standard, snItems, pieces, reduced}
 use Rattle.rules.specs.Texts.{part, strung, render, text}
 use Rattle.rules.specs.declared.BreakdownMode.{BreakdownMode}
@@ -199,7 +199,8 @@ module _ (m cs ns chart : List ℕ) (e : from m cs ns 0 ≡ tokens (classes char
   sn-text mode =
       rw e (ap (textFrom 0) (sn-items mode (tokens (classes chart)) (tokens-long (classes chart))) ∙ sn-render mode (snItems mode (tokens (classes chart))))
 
-  from-pieces : (l : StreamBreakdownLevel) (b : Bool) (k : ℕ) → standardText b k m cs ns ≡ render (standard l) (map (item (gapItem b)) (join k (pieces (classes chart))))
+  from-pieces : (l : StreamBreakdownLevel) (b : Bool) (k : ℕ)
+      → standardText b k m cs ns ≡ render (standard l) (map (item (gapItem b)) (join k (pieces (classes chart))))
   from-pieces l b k = rw (e, pieces-merged (classes chart)) (standard-render l b k (tokens (classes chart)))
 
   alone : join 0 (pieces (classes chart)) ≡ pieces (classes chart)

@@ -1,22 +1,22 @@
 -- A standard text, piece by piece, and Total.
 -- Assumes nothing.
-use Prim.Native.Nat.{ℕ, zero, suc, _+_, _≤_, _<_}
-use mathlib.Core.Path.{_≡_, refl, ap, _∙_}
+use Prim.Native.Nat.{ℕ, zero, suc, _+_, _≤_}
+use mathlib.Core.Path.{_≡_, refl}
 use mathlib.Core.Bool.{Bool}
 use mathlib.Core.Logic.{_≢_}
 use mathlib.Core.List.{List, [], _∷_, _++_, map, append-assoc, append-nil}
 use native.Mathlib.Omega.{arith}
-use lib.ListN.{length, length-append}
 use Rattle.number.specs.Digits.{digits}
 use Rattle.number.specs.Place.{Room, Wrote}
 use Rattle.rules.specs.Bytes.{bytes}
 use Rattle.rules.specs.Chart.{Token, token}
 use Rattle.rules.specs.Reduced.{item}
 use Rattle.rules.specs.Texts.{part, strung, render}
-use Rattle.breakdown.specs.Source.{from, end, Source, Within}
+use Rattle.breakdown.specs.Put.{Measured}
+use Rattle.breakdown.specs.Source.{from, end, Source}
 use Rattle.breakdown.specs.Sn.{breakTokens}
 use Rattle.breakdown.specs.Standard.{gapItem, piecesText, standardOf, standardText, totalText, pieceText, NextPiece}
-use Rattle.breakdown.proofs.Loop.{Going, room, step}
+use Rattle.breakdown.proofs.Loop.{Going, room, step, Counted, counted}
 use Rattle.breakdown.proofs.Reading.{past-end, some-token}
 
 -- the text from place i on
@@ -33,8 +33,8 @@ module _ (b : Bool) {m cs ns : List ℕ} {k i n : ℕ} {s : Bool} {g next : ℕ}
   next-chunk : textAt b k m cs ns i ≡ pieceText b n s g ++ textAt b k m cs ns next
   next-chunk = rw (h .rest) (chunk b n s g _)
 
-  pub standard-sum : length (textAt b k m cs ns i) ≡ length (pieceText b n s g) + length (textAt b k m cs ns next)
-  standard-sum = ap length next-chunk ∙ length-append (pieceText b n s g) (textAt b k m cs ns next)
+  pub standard-counted : {total r : ℕ} → Counted (textAt b k m cs ns) total i → Measured (pieceText b n s g) 47 r → Counted (textAt b k m cs ns) (total + r) next
+  standard-counted d r = counted (textAt b k m cs ns) d (pieceText b n s g) next-chunk r (h .on)
 
   module _ {old : List ℕ} {at : ℕ} {out : List ℕ} {place : ℕ} (d : Going (textAt b k m cs ns) old at out place i) where
     pub standard-room : Room old at (textAt b k m cs ns 0) → Room out place (pieceText b n s g)

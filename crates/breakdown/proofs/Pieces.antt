@@ -27,7 +27,8 @@ module _ (k n : ℕ) (s : Bool) (c m : ℕ) (t : Bool) where
   glued (token (suc d) x r ∷ ps) = rw (add-assoc n m x)
 
   module _ (g : ℕ) where
-    over : (ps : List Token) → g ≤ k → joinFrom k (token 1 n s) (token 0 g false ∷ glue (token (suc c) m t) ps) ≡ join k (glue (token 1 (n + g + m) true) ps)
+    over : (ps : List Token) → g ≤ k
+        → joinFrom k (token 1 n s) (token 0 g false ∷ glue (token (suc c) m t) ps) ≡ join k (glue (token 1 (n + g + m) true) ps)
     over [] h = rw (le-leb g k h)
     over (token zero x r ∷ ps) h = rw (le-leb g k h)
     over (token (suc d) x r ∷ ps) h = rw (le-leb g k h, add-assoc (n + g) m x)
@@ -53,7 +54,8 @@ module _ (k n : ℕ) (s : Bool) where
   after-over g (token zero m t ∷ ts) h l = absurd (h refl)
   after-over g (token (suc c) m t ∷ ts) h l = over k n s c m t g (merged ts) l ∙ sym (ap (join k) (glued k (n + g) true c m t (merged ts)))
 
-  after-apart : (g : ℕ) (ts : List Token) → firstClass ts ≢ 0 → k < g → after k n s (token 0 g false ∷ ts) ≡ token 1 n s ∷ token 0 g false ∷ join k (merged ts)
+  after-apart : (g : ℕ) (ts : List Token) → firstClass ts ≢ 0 → k < g
+      → after k n s (token 0 g false ∷ ts) ≡ token 1 n s ∷ token 0 g false ∷ join k (merged ts)
   after-apart g [] h l = absurd (h refl)
   after-apart g (token zero m t ∷ ts) h l = absurd (h refl)
   after-apart g (token (suc c) m t ∷ ts) h l = apart k n s c m t g (merged ts) l
@@ -77,7 +79,8 @@ pub record Pending (m cs ns : List ℕ) (k i n : ℕ) (s : Bool) (j : ℕ) : Typ
   pub on : i < j
   pub within : j ≤ end m cs
 
-pub starts : {m cs ns : List ℕ} (k : ℕ) {i c n j : ℕ} → Opens m cs ns i → NextToken m cs ns i c n j → n < 4294967296 → Pending m cs ns k i n false j
+pub starts : {m cs ns : List ℕ} (k : ℕ) {i c n j : ℕ} → Opens m cs ns i
+    → NextToken m cs ns i c n j → n < 4294967296 → Pending m cs ns k i n false j
 starts {m} {cs} {ns} k {c = c} {n} {j} o t b =
     let a = rw (t .rest) at (o .alternates) in
     record {

@@ -71,6 +71,17 @@ fn pad_byte(n: u32) -> u8
     b' '
 }
 
+// A sign, between spaces if it is "|".
+fn put_sign(out: &mut [u8], at: usize, n: u32) -> usize
+    requires { ⌜ Room (now out) at (part (signOf 31 n)) ⌝ }
+    ensures { λ r. ⌜ Wrote (now (out .entry)) (now (out .exit)) at (part (signOf 31 n)) r ⌝ }
+{
+    let pad = pad_byte(n);
+    let a = put_byte(out, at, pad);
+    let b = put_byte(out, a, sign_byte(31, n));
+    put_byte(out, b, pad)
+}
+
 fn put_gap(out: &mut [u8], at: usize, signs: bool, n: u32) -> usize
     requires { ⌜ Room (now out) at (gapText signs n) ⌝ }
     ensures { λ r. ⌜ Wrote (now (out .entry)) (now (out .exit)) at (gapText signs n) r ⌝ }
@@ -79,10 +90,7 @@ fn put_gap(out: &mut [u8], at: usize, signs: bool, n: u32) -> usize
         return at;
     }
     if signs {
-        let pad = pad_byte(n);
-        let a = put_byte(out, at, pad);
-        let b = put_byte(out, a, sign_byte(31, n));
-        return put_byte(out, b, pad);
+        return put_sign(out, at, n);
     }
     if n == 1 {
         return put_byte(out, at, b'-');

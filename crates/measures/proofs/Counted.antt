@@ -6,9 +6,9 @@ use mathlib.Core.Bool.{false, cond}
 use mathlib.Core.List.{List, [], _∷_, map}
 use native.Mathlib.Omega.{arith}
 use lib.Dec.{eqb, ltb}
-use lib.ListN.{length, drop, length-drop, length-map}
+use lib.ListN.{length, length-drop, length-map}
 use borrow.Author.Tests.{eqb-true, ne-eqb}
-use Rattle.rules.specs.Chart.{classOf, Token, token, class, len, leadIn, fromFirst, keep, toLast, active, runsFrom, runs, count, streams, wideGaps, counts, noCounts, classes, tokens}
+use Rattle.rules.specs.Chart.{Token, token, class, len, leadIn, fromFirst, keep, toLast, active, runsFrom, runs, count, streams, wideGaps, counts, noCounts, classes, tokens}
 use Rattle.number.proofs.Split.{split}
 use Rattle.measures.specs.Sums.{held, wideOf, Summed}
 use Rattle.measures.specs.Scan.{paired, total}

@@ -2,7 +2,6 @@
 -- Assumes nothing.
 use Prim.Native.Nat.{ℕ, zero, suc, _+_, _*_, _/_, _≤_}
 use mathlib.Core.Path.{_≡_, refl}
-use mathlib.Core.Bool.{cond}
 use mathlib.Core.List.{List, [], _∷_}
 use native.Mathlib.Nat.{div-le-of-le-mul}
 use native.Mathlib.Omega.{arith}
@@ -10,7 +9,7 @@ use lib.Dec.{eqb, ltb}
 use lib.ListN.{length, length-map}
 use borrow.Author.Tests.{ltb-true, ltb-false}
 use Rattle.number.proofs.Split.{split}
-use Rattle.rules.specs.Chart.{classOf, classes, runs, count, streams, wideGaps, counts}
+use Rattle.rules.specs.Chart.{classOf, classes, runs, count, streams, counts}
 use Rattle.rules.specs.Calls.{share}
 use Rattle.rules.specs.declared.StreamCounts.{StreamCounts}
 use Rattle.rules.proofs.Steps.{class-0, class-1, class-2, class-3, class-4}

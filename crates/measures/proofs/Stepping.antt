@@ -13,7 +13,6 @@ use borrow.Author.Tests.{eq-eqb, ne-eqb}
 use Rattle.number.proofs.Split.{split}
 use Rattle.rules.specs.Chart.{classOf, classes}
 use Rattle.rules.specs.Calls.{stepAt}
-use Rattle.rules.specs.declared.ViewToken.{ViewToken}
 use Rattle.rules.proofs.View.{leading, first-run}
 
 leading-short : (c : ℕ) (cs : List ℕ) → leading c cs ≤ length cs

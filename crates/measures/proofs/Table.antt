@@ -2,17 +2,12 @@
 -- Assumes nothing.
 use Prim.Native.Nat.{ℕ, zero, suc, _+_, _≤_, _<_}
 use mathlib.Core.Path.{_≡_, sym, ap, _∙_}
-use mathlib.Core.Logic.{_≢_}
 use native.Mathlib.Nat.{not-suc-le-zero, le-of-suc-le-suc}
 use native.Mathlib.Omega.{arith}
 use mathlib.Core.List.{List}
-use mathlib.Core.Bool.{cond}
-use lib.Dec.{ltb}
-use borrow.Author.Tests.{ltb-true, ltb-false, lt-ltb}
 use lib.ListN.{getD, List·getD-map}
 use Rattle.rules.specs.Chart.{classOf}
-use Rattle.rules.proofs.Steps.{class-0, class-1, class-2, class-3, class-4}
-use Rattle.number.proofs.Split.{split}
+use Rattle.rules.proofs.Steps.{class-4}
 use Rattle.measures.specs.Scan.{upFrom, classTable}
 
 at : (i n k : ℕ) → k < n → getD (upFrom i n) k 0 ≡ i + k

@@ -144,73 +144,77 @@ more-alone q p x v all m e =
     split (ltb x 16) (λ f. rw f (rw f at e))
     (λ f. split (ltb p 16) (λ g. split (ltb q 16) (λ h. rw (f, g, h) (rw (f, g, h) at e)) (λ h. rw (f, g, h) (omega (arith, rw (f, g, h) at e)))) (λ g. rw (f, g) (rw (f, g) at e)))
 
-module _ (m : List ℕ) where
-  pub record Telling (a b c d e q p i : ℕ) : Type 0 where
-    pub at16 : a + reach 16 (drop i m) ≡ reach 16 m
-    pub at20 : b + reach 20 (drop i m) ≡ reach 20 m
-    pub at24 : c + reach 24 (drop i m) ≡ reach 24 m
-    pub at32 : d + reach 32 (drop i m) ≡ reach 32 m
-    pub ones : e + singles q p (drop i m) ≡ singles 16 16 m
-    pub within : i ≤ length m
+pub record Telling (m : List ℕ) (a b c d e q p i : ℕ) : Type 0 where
+  pub closed : Closed m
+  pub at16 : a + reach 16 (drop i m) ≡ reach 16 m
+  pub at20 : b + reach 20 (drop i m) ≡ reach 20 m
+  pub at24 : c + reach 24 (drop i m) ≡ reach 24 m
+  pub at32 : d + reach 32 (drop i m) ≡ reach 32 m
+  pub ones : e + singles q p (drop i m) ≡ singles 16 16 m
+  pub within : i ≤ length m
 
-  pub begins : Telling 0 0 0 0 0 16 16 0
-  begins = record { at16 = omega arith; at20 = omega arith; at24 = omega arith; at32 = omega arith; ones = omega arith; within = omega arith }
+pub begins : {m : List ℕ} → Closed m → Telling m 0 0 0 0 0 16 16 0
+begins w =
+    record { closed = w; at16 = omega arith; at20 = omega arith; at24 = omega arith; at32 = omega arith; ones = omega arith; within = omega arith }
 
-  module _ (a b c d e q p i : ℕ) (g : Telling a b c d e q p i) where
-    pub low : (a ≤ length m) × (b ≤ length m) × (c ≤ length m) × (d ≤ length m) × (e ≤ length m)
-    low = (omega (arith, reach-most 16 m), omega (arith, reach-most 20 m), omega (arith, reach-most 24 m), omega (arith, reach-most 32 m), omega (arith, singles-most 16 16 m))
+module _ {m : List ℕ} {a b c d e q p i : ℕ} (g : Telling m a b c d e q p i) where
+  -- the sums are small
+  pub low : (a ≤ 1048576) × (b ≤ 1048576) × (c ≤ 1048576) × (d ≤ 1048576) × (e ≤ 1048576)
+  low =
+      let h = g .closed .few in
+      (omega (arith, reach-most 16 m), omega (arith, reach-most 20 m), omega (arith, reach-most 24 m), omega (arith, reach-most 32 m), omega (arith, singles-most 16 16 m))
 
-    pub told : i < length m →
-        let x = getD m i 0 in
-        Telling (cond (ltb x 16) a (a + 1)) (cond (ltb x 20) b (b + 1)) (cond (ltb x 24) c (c + 1)) (cond (ltb x 32) d (d + 1)) (alone q p x e (e + 1)) p x (i + 1)
-    told h =
-        let x = getD m i 0 in
-        let n = drop-cons m i 0 h in
-        record {
-          at16 = rw (add-one i) (more 16 x a (reach 16 m) (drop (suc i) m) (rw n at (g .at16)));
-          at20 = rw (add-one i) (more 20 x b (reach 20 m) (drop (suc i) m) (rw n at (g .at20)));
-          at24 = rw (add-one i) (more 24 x c (reach 24 m) (drop (suc i) m) (rw n at (g .at24)));
-          at32 = rw (add-one i) (more 32 x d (reach 32 m) (drop (suc i) m) (rw n at (g .at32)));
-          ones = rw (add-one i) (more-alone q p x e (singles 16 16 m) (drop (suc i) m) (rw n at (g .ones)));
-          within = omega arith;
-        }
+  pub told : i < length m →
+      let x = getD m i 0 in
+      Telling m (cond (ltb x 16) a (a + 1)) (cond (ltb x 20) b (b + 1)) (cond (ltb x 24) c (c + 1)) (cond (ltb x 32) d (d + 1)) (alone q p x e (e + 1)) p x (i + 1)
+  told h =
+      let x = getD m i 0 in
+      let n = drop-cons m i 0 h in
+      let rest = drop (suc i) m in
+      record {
+        closed = g .closed;
+        at16 = rw (add-one i) (more 16 x a _ rest (rw n at (g .at16)));
+        at20 = rw (add-one i) (more 20 x b _ rest (rw n at (g .at20)));
+        at24 = rw (add-one i) (more 24 x c _ rest (rw n at (g .at24)));
+        at32 = rw (add-one i) (more 32 x d _ rest (rw n at (g .at32)));
+        ones = rw (add-one i) (more-alone q p x e _ rest (rw n at (g .ones)));
+        within = omega arith;
+      }
 
-    -- at the end the sums are those of the runs
-    module _ (h : length m ≤ i) (w : Closed m) where
-      pub record Ready : Type 0 where
-        pub none : held 0 (runs (classes m)) + a ≡ length m
-        pub one : held 1 (runs (classes m)) + b ≡ a
-        pub two : held 2 (runs (classes m)) + c ≡ b
-        pub three : held 3 (runs (classes m)) + d ≡ c
-        pub four : held 4 (runs (classes m)) ≡ d
-        pub gaps : wideGaps (runs (classes m)) + e ≡ held 0 (runs (classes m))
+-- at the end the sums are those of the runs
+pub record Told (m : List ℕ) (a b c d e : ℕ) : Type 0 where
+  pub none : held 0 (runs (classes m)) + a ≡ length m
+  pub one : held 1 (runs (classes m)) + b ≡ a
+  pub two : held 2 (runs (classes m)) + c ≡ b
+  pub three : held 3 (runs (classes m)) + d ≡ c
+  pub four : held 4 (runs (classes m)) ≡ d
+  pub gaps : wideGaps (runs (classes m)) + e ≡ held 0 (runs (classes m))
 
-      pub ready : Ready
-      ready =
-          let z = drop-of-length-le m {i = i} h in
-          let r = reaches m in
-          let l = lones m (w .ends) in
-          let a′ : a ≡ reach 16 m = omega (arith, rw z at (g .at16)) in
-          let b′ : b ≡ reach 20 m = omega (arith, rw z at (g .at20)) in
-          let c′ : c ≡ reach 24 m = omega (arith, rw z at (g .at24)) in
-          let d′ : d ≡ reach 32 m = omega (arith, rw z at (g .at32)) in
-          let e′ : e ≡ singles 16 16 m = omega (arith, rw z at (g .ones)) in
-          record {
-            none = rw (held-runs, a′) (r .0);
-            one = rw (held-runs, a′, b′) (r .1);
-            two = rw (held-runs, b′, c′) (r .2);
-            three = rw (held-runs, c′, d′) (r .3);
-            four = rw (held-runs, d′) (r .4);
-            gaps = rw (held-runs, e′) l;
-          }
+pub all-told : {m : List ℕ} {a b c d e q p i : ℕ} → Telling m a b c d e q p i → length m ≤ i → Told m a b c d e
+all-told {m} {a} {b} {c} {d} {e} {i = i} g h =
+    let z = drop-of-length-le m {i = i} h in
+    let r = reaches m in
+    let a′ : a ≡ reach 16 m = omega (arith, rw z at (g .at16)) in
+    let b′ : b ≡ reach 20 m = omega (arith, rw z at (g .at20)) in
+    let c′ : c ≡ reach 24 m = omega (arith, rw z at (g .at24)) in
+    let d′ : d ≡ reach 32 m = omega (arith, rw z at (g .at32)) in
+    let e′ : e ≡ singles 16 16 m = omega (arith, rw z at (g .ones)) in
+    record {
+      none = rw (held-runs, a′) (r .0);
+      one = rw (held-runs, a′, b′) (r .1);
+      two = rw (held-runs, b′, c′) (r .2);
+      three = rw (held-runs, c′, d′) (r .3);
+      four = rw (held-runs, d′) (r .4);
+      gaps = rw (held-runs, e′) (lones m (g .closed .ends));
+    }
 
-      pub ended : record { run16 = a - b; run20 = b - c; run24 = c - d; run32 = d; breaks = length m - a; wide = (length m - a) - e } ≡ sumsOf (runs (classes m))
-      ended =
-          let r = ready in
-          let ts = runs (classes m) in
-          let e₁ : held 1 ts ≡ a - b = omega arith in
-          let e₂ : held 2 ts ≡ b - c = omega arith in
-          let e₃ : held 3 ts ≡ c - d = omega arith in
-          let e₅ : held 0 ts ≡ length m - a = omega arith in
-          let e₆ : wideGaps ts ≡ (length m - a) - e = omega arith in
-          rw (e₁, e₂, e₃, r .four, e₅, e₆)
+pub ended : {m : List ℕ} {a b c d e : ℕ} → Told m a b c d e
+    → record { run16 = a - b; run20 = b - c; run24 = c - d; run32 = d; breaks = length m - a; wide = (length m - a) - e } ≡ sumsOf (runs (classes m))
+ended {m} {a} {b} {c} {d} {e} r =
+    let ts = runs (classes m) in
+    let e₁ : held 1 ts ≡ a - b = omega arith in
+    let e₂ : held 2 ts ≡ b - c = omega arith in
+    let e₃ : held 3 ts ≡ c - d = omega arith in
+    let e₅ : held 0 ts ≡ length m - a = omega arith in
+    let e₆ : wideGaps ts ≡ (length m - a) - e = omega arith in
+    rw (e₁, e₂, e₃, r .four, e₅, e₆)

@@ -7,7 +7,7 @@ use native.Mathlib.Omega.{arith}
 use lib.ListN.{length, take, drop, length-append, length-map}
 use lib.Seq.{take-at, length-take-le}
 use Rattle.number.specs.Questions.{filled}
-use Rattle.rules.specs.Chart.{classOf, classes, Token, class, len, runs}
+use Rattle.rules.specs.Chart.{classes, Token, class, len, runs}
 use Rattle.measures.specs.Scan.{InSlices, paired, Paired}
 use Rattle.measures.proofs.Counted.{total-runs, paired-runs}
 

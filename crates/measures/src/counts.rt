@@ -95,6 +95,7 @@ pub fn wide(n: u32) -> u32
     if n < 2 { 0 } else { n }
 }
 
+// The counts of a refused chart, and of one without a stream measure.
 pub fn no_counts() -> StreamCounts
     ensures { λ r. ⌜ r ≡ noCounts ⌝ }
 {

@@ -2,7 +2,6 @@
 use crate::active::active_behind;
 use crate::active::active_range;
 use crate::active::lead_in;
-use crate::class::class_of;
 use crate::counts::Sums;
 use crate::counts::counted;
 use crate::counts::wide;
@@ -158,17 +157,18 @@ pub fn scan(m: &[u32], cs: &mut [u8], ns: &mut [u32]) -> ScanAnswer
 }
 
 // How many longest runs of one class there are.
-fn runs_number(m: &[u32]) -> usize
+fn runs_number(m: &[u32], table: &[u8; 33]) -> usize
+    requires { ⌜ now table ≡ classTable ⌝ }
     ensures { λ r. ⌜ r ≡ length (runs (classes (now (m .entry)))) ⌝ }
 {
     if m.len() == 0 {
         return 0;
     }
-    let mut c = class_of(m[0]);
+    let mut c = class_at(table, m[0]);
     let mut k: usize = 1;
     let mut i: usize = 1;
     while i < m.len() {
-        let d = class_of(m[i]);
+        let d = class_at(table, m[i]);
         if d != c {
             k += 1;
         }
@@ -185,5 +185,6 @@ pub fn tokens_fit(m: &[u32], places: usize) -> bool
     if m.len() <= places {
         return true;
     }
-    runs_number(active_range(m)) <= places
+    let table = CLASS;
+    runs_number(active_range(m), &table) <= places
 }

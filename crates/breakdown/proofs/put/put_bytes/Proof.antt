@@ -23,7 +23,8 @@ shared-slice-read-put-one c = omega arith
 put-one-requires : tie.Need-put-one-requires Inv-loop μ-loop
 put-one-requires c κs =
     let l = c .before .before .before .loop in
-    room _ _ _ (l .inv .2) _ (l .i + 1) (byte-chunk (c .before .before .before .before .before .before .args .text .now) (l .i) (c .before .before .loop-test .taken)) (l .inv .1)
+    let text = c .before .before .before .before .before .before .args .text .now in
+    room _ _ _ (l .inv .2) _ (l .i + 1) (byte-chunk text (l .i) (c .before .before .loop-test .taken)) (l .inv .1)
 
 add-i : tie.Need-add-i Inv-loop μ-loop
 add-i c = omega arith
@@ -34,7 +35,9 @@ loop-less c = omega arith
 loop-again : tie.Need-loop-again Inv-loop μ-loop
 loop-again c =
     let l = c .before .before .before .before .before .before .loop in
-    (omega arith, l .inv .1, step _ _ _ (l .inv .2) _ (l .i + 1) (byte-chunk (c .before .before .before .before .before .before .before .before .before .args .text .now) (l .i) (c .before .before .before .before .before .loop-test .taken)) (c .before .before .put-one .ensures))
+    let text = c .before .before .before .before .before .before .before .before .before .args .text .now in
+    let e = byte-chunk text (l .i) (c .before .before .before .before .before .loop-test .taken) in
+    (omega arith, l .inv .1, step _ _ _ (l .inv .2) _ (l .i + 1) e (c .before .before .put-one .ensures))
 
 same-length : tie.Need-same-length Inv-loop μ-loop
 same-length c = long _ _ _ (c .before .loop .inv .2)

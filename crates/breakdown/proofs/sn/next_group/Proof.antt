@@ -41,44 +41,45 @@ token-at-requires-2 c κs = let l = c .before .before .before .loop in (l .inv .
 apart-requires : tie.Need-apart-requires Inv-loop μ-loop
 apart-requires c κs =
     let l = c .before .before .before .before .before .before .loop in
-    let b = c .before .before .before .before .class-at .ensures _ (l .inv .0 .long) ∙ c .before .before .before .if1 .left in
-    let u = c .before .before .token-at2 .ensures in
-    before-break (l .inv .2) b u (omega arith) (end-few _ _ (l .inv .0))
+    let s = c .before .before in
+    let b = s .before .before .class-at .ensures _ (l .inv .0 .long) ∙ s .before .if1 .left in
+    before-break (l .inv .2) b (s .token-at2 .ensures) (omega arith) (end-few _ _ (l .inv .0))
 
 returns : tie.Need-returns Inv-loop μ-loop
 returns c =
     let l = c .before .before .before .before .before .before .before .loop in
-    let b = c .before .before .before .before .before .class-at .ensures _ (l .inv .0 .long) ∙ c .before .before .before .before .if1 .left in
-    let u = c .before .before .before .token-at2 .ensures in
-    parted (l .inv .2) b u (inl (c .before .if2 .taken)) (c .apart .ensures)
+    let s = c .before .before .before in
+    let b = s .before .before .class-at .ensures _ (l .inv .0 .long) ∙ s .before .if1 .left in
+    parted (l .inv .2) b (s .token-at2 .ensures) (inl (c .before .if2 .taken)) (c .apart .ensures)
 
 class-at-requires-2 : tie.Need-class-at-requires-2 Inv-loop μ-loop
 class-at-requires-2 c κs =
     let l = c .before .before .before .before .before .before .loop in
-    let b = c .before .before .before .before .class-at .ensures _ (l .inv .0 .long) ∙ c .before .before .before .if1 .left in
-    let u = c .before .before .token-at2 .ensures in
-    behind-break (l .inv .2) b u
+    let s = c .before .before in
+    let b = s .before .before .class-at .ensures _ (l .inv .0 .long) ∙ s .before .if1 .left in
+    behind-break (l .inv .2) b (s .token-at2 .ensures)
 
 apart-requires-2 : tie.Need-apart-requires-2 Inv-loop μ-loop
 apart-requires-2 c κs =
     let l = c .before .before .before .before .before .before .before .before .loop in
-    let b = c .before .before .before .before .before .before .class-at .ensures _ (l .inv .0 .long) ∙ c .before .before .before .before .before .if1 .left in
-    let u = c .before .before .before .before .token-at2 .ensures in
-    before-break (l .inv .2) b u (omega arith) (end-few _ _ (l .inv .0))
+    let s = c .before .before .before .before in
+    let b = s .before .before .class-at .ensures _ (l .inv .0 .long) ∙ s .before .if1 .left in
+    before-break (l .inv .2) b (s .token-at2 .ensures) (omega arith) (end-few _ _ (l .inv .0))
 
 returns-2 : tie.Need-returns-2 Inv-loop μ-loop
 returns-2 c =
     let l = c .before .before .before .before .before .before .before .before .before .loop in
-    let b = c .before .before .before .before .before .before .before .class-at .ensures _ (l .inv .0 .long) ∙ c .before .before .before .before .before .before .if1 .left in
-    let u = c .before .before .before .before .before .token-at2 .ensures in
-    parted (l .inv .2) b u (inr (λ e. c .before .if3 .taken (sym (c .before .before .class-at2 .ensures _ (l .inv .0 .long)) ∙ e))) (c .apart2 .ensures)
+    let s = c .before .before .before .before .before in
+    let b = s .before .before .class-at .ensures _ (l .inv .0 .long) ∙ s .before .if1 .left in
+    let f = sym (c .before .before .class-at2 .ensures _ (l .inv .0 .long)) in
+    parted (l .inv .2) b (s .token-at2 .ensures) (inr (λ e. c .before .if3 .taken (f ∙ e))) (c .apart2 .ensures)
 
 token-at-requires-3 : tie.Need-token-at-requires-3 Inv-loop μ-loop
 token-at-requires-3 c κs =
     let l = c .before .before .before .before .before .before .before .before .loop in
-    let b = c .before .before .before .before .before .before .class-at .ensures _ (l .inv .0 .long) ∙ c .before .before .before .before .before .if1 .left in
-    let u = c .before .before .before .before .token-at2 .ensures in
-    (l .inv .0, behind-break (l .inv .2) b u)
+    let s = c .before .before .before .before in
+    let b = s .before .before .class-at .ensures _ (l .inv .0 .long) ∙ s .before .if1 .left in
+    (l .inv .0, behind-break (l .inv .2) b (s .token-at2 .ensures))
 
 cast-length-2 : tie.Need-cast-length-2 Inv-loop μ-loop
 cast-length-2 c = omega arith
@@ -102,10 +103,11 @@ loop-less c = omega arith
 loop-again : tie.Need-loop-again Inv-loop μ-loop
 loop-again c =
     let l = c .before .before .before .before .before .before .before .before .before .before .before .loop in
-    let b = c .before .before .before .before .before .before .before .before .before .class-at .ensures _ (l .inv .0 .long) ∙ c .before .before .before .before .before .before .before .before .if1 .left in
-    let u = c .before .before .before .before .before .before .before .token-at2 .ensures in
+    let s = c .before .before .before .before .before .before .before in
+    let b = s .before .before .class-at .ensures _ (l .inv .0 .long) ∙ s .before .if1 .left in
     let f = c .before .before .before .before .class-at2 .ensures _ (l .inv .0 .long) ∙ c .before .before .before .if3 .left in
-    (l .inv .0, l .inv .1, joined (l .inv .2) b u (c .before .before .before .before .before .if2 .left) f (c .before .before .token-at3 .ensures) (omega arith) (omega arith))
+    let v = c .before .before .token-at3 .ensures in
+    (l .inv .0, l .inv .1, joined (l .inv .2) b (s .token-at2 .ensures) (c .before .before .before .before .before .if2 .left) f v (omega arith) (omega arith))
 
 returns-3 : tie.Need-returns-3 Inv-loop μ-loop
 returns-3 c =

@@ -1,7 +1,7 @@
 -- `breakdown::sn::put_group` meets its contract.
 -- Assumes nothing.
-use Rattle.number.proofs.Place.{room-first, room-next, wrote}
 use borrow.Author.Needs.{needs}
+use Rattle.number.proofs.Place.{room-first, room-next, wrote}
 use Rattle.breakdown.proofs.sn.put_group.Statement.{statement}
 use Rattle.breakdown.proofs.sn.put_group.Tie as tie
 
@@ -12,16 +12,24 @@ put-byte-requires : tie.Need-put-byte-requires
 put-byte-requires c κs = room-first _ _ (rw (← (c .lead-byte .ensures)) at (c .before .before .before .pre))
 
 put-run-requires : tie.Need-put-run-requires
-put-run-requires c κs = room-first _ _ (room-next _ _ (c .before .before .before .put-byte .ensures) (rw (← (c .before .before .before .before .lead-byte .ensures)) at (c .before .before .before .before .before .before .before .pre)))
+put-run-requires c κs =
+    let p = rw (← (c .before .before .before .before .lead-byte .ensures)) at (c .before .before .before .before .before .before .before .pre) in
+    room-first _ _ (room-next _ _ (c .before .before .before .put-byte .ensures) p)
 
 put-break-requires : tie.Need-put-break-requires
-put-break-requires c κs = room-next _ _ (c .before .before .before .put-run .ensures) (room-next _ _ (c .before .before .before .before .before .before .before .put-byte .ensures) (rw (← (c .before .before .before .before .before .before .before .before .lead-byte .ensures)) at (c .before .before .before .before .before .before .before .before .before .before .before .pre)))
+put-break-requires c κs =
+    let lead = c .before .before .before .before .before .before .before .before .lead-byte .ensures in
+    let p = rw (← lead) at (c .before .before .before .before .before .before .before .before .before .before .before .pre) in
+    room-next _ _ (c .before .before .before .put-run .ensures) (room-next _ _ (c .before .before .before .before .before .before .before .put-byte .ensures) p)
 
 same-length : tie.Need-same-length
 same-length c = search needs
 
 returns : tie.Need-returns
-returns c = rw (← (c .before .before .before .before .before .before .before .before .before .before .before .lead-byte .ensures)) (wrote _ _ (c .before .before .before .before .before .before .before .before .before .before .put-byte .ensures) (wrote _ _ (c .before .before .before .before .before .before .put-run .ensures) (c .before .before .put-break .ensures)))
+returns c =
+    let lead = c .before .before .before .before .before .before .before .before .before .before .before .lead-byte .ensures in
+    let w = wrote _ _ (c .before .before .before .before .before .before .put-run .ensures) (c .before .before .put-break .ensures) in
+    rw (← lead) (wrote _ _ (c .before .before .before .before .before .before .before .before .before .before .put-byte .ensures) w)
 
 pub put-group-spec : {M : Type 1} → statement M
 put-group-spec =

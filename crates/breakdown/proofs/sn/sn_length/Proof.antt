@@ -3,9 +3,9 @@
 use Prim.Native.Nat.{_-_}
 use native.Mathlib.Omega.{arith}
 use Rattle.breakdown.specs.Sn.{snText}
-use Rattle.breakdown.proofs.Loop.{Counted, counted-starts, counted, counted-all}
+use Rattle.breakdown.proofs.Loop.{Counted, counted-starts, counted-all}
 use Rattle.breakdown.proofs.Reading.{Walk, walk-starts, walk-opens, walk-on, walk-few}
-use Rattle.breakdown.proofs.GroupTexts.{sn-sum, sn-end}
+use Rattle.breakdown.proofs.GroupTexts.{sn-counted, sn-end}
 use Rattle.breakdown.proofs.sn.sn_length.Statement.{statement}
 use Rattle.breakdown.proofs.sn.sn_length.Tie as tie
 
@@ -37,7 +37,7 @@ loop-again : tie.Need-loop-again Inv-loop μ-loop
 loop-again c =
     let l = c .before .before .before .loop in
     let g = c .before .next-group .ensures in
-    (walk-on (l .inv .0) (g .within) (g .alternates), counted _ (l .inv .1) (sn-sum g) (c .group-length .ensures) (g .on))
+    (walk-on (l .inv .0) (g .within) (g .alternates), sn-counted g (l .inv .1) (c .group-length .ensures))
 
 returns : tie.Need-returns Inv-loop μ-loop
 returns c =

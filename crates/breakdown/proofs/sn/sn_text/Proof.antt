@@ -30,7 +30,9 @@ put-group-requires : tie.Need-put-group-requires Inv-loop μ-loop
 put-group-requires c κs = let l = c .before .before .before .loop in sn-room (c .before .next-group .ensures) (l .inv .2) (l .inv .1)
 
 loop-less : tie.Need-loop-less Inv-loop μ-loop
-loop-less c = let g = c .before .before .before .before .next-group .ensures in omega (arith, g .on, g .within, c .before .before .before .before .before .before .loop .inv .0 .ends)
+loop-less c =
+    let g = c .before .before .before .before .next-group .ensures in
+    omega (arith, g .on, g .within, c .before .before .before .before .before .before .loop .inv .0 .ends)
 
 loop-again : tie.Need-loop-again Inv-loop μ-loop
 loop-again c =

@@ -24,8 +24,10 @@ add-result-2 c = search needs
 
 returns-2 : tie.Need-returns-2
 returns-2 c =
+    let s = c .before .before in
+    let one = sign-one 31 (s .before .before .args .n) in
     record {
-      number = rw (c .before .before .if2 .taken, gap-sign _ (c .before .before .before .if1 .left), c .before .pad-byte .ensures) (simp length-append (omega (arith, sign-one 31 (c .before .before .before .before .args .n))));
+      number = rw (s .if2 .taken, gap-sign _ (s .before .if1 .left), c .before .pad-byte .ensures) (simp length-append (omega (arith, one)));
       short = omega arith;
     }
 

@@ -35,7 +35,9 @@ token-at-requires-2 : tie.Need-token-at-requires-2 Inv-loop μ-loop
 token-at-requires-2 c κs = (c .before .loop .inv .0, record { inside = omega arith })
 
 returns : tie.Need-returns Inv-loop μ-loop
-returns c = parted (c .before .before .before .before .before .before .loop .inv .2) (c .before .before .before .before .token-at2 .ensures) (c .before .before .if1 .taken) (c .if2 .taken)
+returns c =
+    let s = c .before .before .before .before in
+    parted (s .before .before .loop .inv .2) (s .token-at2 .ensures) (c .before .before .if1 .taken) (c .if2 .taken)
 
 cast-length-2 : tie.Need-cast-length-2 Inv-loop μ-loop
 cast-length-2 c = omega arith

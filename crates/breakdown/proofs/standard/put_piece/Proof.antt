@@ -1,7 +1,7 @@
 -- `breakdown::standard::put_piece` meets its contract.
 -- Assumes nothing.
-use Rattle.number.proofs.Place.{room-first, room-next, wrote}
 use borrow.Author.Needs.{needs}
+use Rattle.number.proofs.Place.{room-first, room-next, wrote}
 use Rattle.breakdown.proofs.standard.put_piece.Statement.{statement}
 use Rattle.breakdown.proofs.standard.put_piece.Tie as tie
 
@@ -12,16 +12,24 @@ star-byte-requires : tie.Need-star-byte-requires
 star-byte-requires c κs = search needs
 
 put-byte-requires : tie.Need-put-byte-requires
-put-byte-requires c κs = room-first _ _ (room-next _ _ (c .before .before .before .before .put-u64 .ensures) (rw (← (c .star-byte .ensures)) at (c .before .before .before .before .before .before .before .pre)))
+put-byte-requires c κs =
+    let p = rw (← (c .star-byte .ensures)) at (c .before .before .before .before .before .before .before .pre) in
+    room-first _ _ (room-next _ _ (c .before .before .before .before .put-u64 .ensures) p)
 
 put-gap-requires : tie.Need-put-gap-requires
-put-gap-requires c κs = room-next _ _ (c .before .before .before .put-byte .ensures) (room-next _ _ (c .before .before .before .before .before .before .before .before .put-u64 .ensures) (rw (← (c .before .before .before .before .star-byte .ensures)) at (c .before .before .before .before .before .before .before .before .before .before .before .pre)))
+put-gap-requires c κs =
+    let p = rw (← (c .before .before .before .before .star-byte .ensures)) at (c .before .before .before .before .before .before .before .before .before .before .before .pre) in
+    let q = room-next _ _ (c .before .before .before .before .before .before .before .before .put-u64 .ensures) p in
+    room-next _ _ (c .before .before .before .put-byte .ensures) q
 
 same-length : tie.Need-same-length
 same-length c = search needs
 
 returns : tie.Need-returns
-returns c = rw (← (c .before .before .before .before .before .before .before .star-byte .ensures)) (wrote _ _ (c .before .before .before .before .before .before .before .before .before .before .before .put-u64 .ensures) (wrote _ _ (c .before .before .before .before .before .before .put-byte .ensures) (c .before .before .put-gap .ensures)))
+returns c =
+    let star = c .before .before .before .before .before .before .before .star-byte .ensures in
+    let w = wrote _ _ (c .before .before .before .before .before .before .put-byte .ensures) (c .before .before .put-gap .ensures) in
+    rw (← star) (wrote _ _ (c .before .before .before .before .before .before .before .before .before .before .before .put-u64 .ensures) w)
 
 pub put-piece-spec : {M : Type 1} → statement M
 put-piece-spec =

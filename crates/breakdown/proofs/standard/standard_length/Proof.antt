@@ -4,9 +4,9 @@ use Prim.Native.Nat.{_-_}
 use mathlib.Core.Path.{sym, ap}
 use lib.ListN.{length}
 use native.Mathlib.Omega.{arith}
-use Rattle.breakdown.proofs.Loop.{Counted, counted-starts, counted, counted-all}
+use Rattle.breakdown.proofs.Loop.{Counted, counted-starts, counted-all}
 use Rattle.breakdown.proofs.Reading.{Walk, walk-starts, walk-opens, walk-on, walk-few}
-use Rattle.breakdown.proofs.PieceTexts.{textAt, standard-sum, standard-end, standard-none, standard-some}
+use Rattle.breakdown.proofs.PieceTexts.{textAt, standard-counted, standard-end, standard-none, standard-some}
 use Rattle.breakdown.proofs.standard.standard_length.Statement.{statement}
 use Rattle.breakdown.proofs.standard.standard_length.Tie as tie
 
@@ -43,14 +43,15 @@ loop-again : tie.Need-loop-again Inv-loop μ-loop
 loop-again c =
     let l = c .before .before .before .loop in
     let g = c .before .next-piece .ensures in
-    (walk-on (l .inv .0) (g .within) (g .alternates), counted _ (l .inv .1) (standard-sum _ g) (c .piece-length .ensures) (g .on))
+    (walk-on (l .inv .0) (g .within) (g .alternates), standard-counted _ g (l .inv .1) (c .piece-length .ensures))
 
 returns-2 : tie.Need-returns-2 Inv-loop μ-loop
 returns-2 c =
     let a = c .before .before .before .before .before .before .before .args in
+    let s = c .before .before in
     let l = c .before .loop in
-    rw (standard-some _ _ _ _ _ (c .before .before .before .source-end .ensures) (l .inv .0 .source) (c .before .before .if1 .left))
-    (counted-all _ (l .inv .1) (standard-end (a .signs) (a .limit) (a .m .now) (a .cs .now) (a .ns .now) (l .i) (omega (arith, l .inv .0 .ends))))
+    let none = standard-end (a .signs) (a .limit) (a .m .now) (a .cs .now) (a .ns .now) (l .i) (omega (arith, l .inv .0 .ends)) in
+    rw (standard-some _ _ _ _ _ (s .before .source-end .ensures) (l .inv .0 .source) (s .if1 .left)) (counted-all _ (l .inv .1) none)
 
 pub standard-length-spec : {M : Type 1} → statement M
 standard-length-spec =

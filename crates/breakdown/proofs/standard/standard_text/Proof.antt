@@ -21,13 +21,17 @@ source-end-requires : tie.Need-source-end-requires Inv-loop μ-loop
 source-end-requires c κs = tt
 
 put-no-streams-requires : tie.Need-put-no-streams-requires Inv-loop μ-loop
-put-no-streams-requires c κs = rw (standard-none _ _ _ _ _ (c .before .before .source-end .ensures) (c .before .if1 .taken)) at (c .before .before .before .before .before .before .before .pre .1)
+put-no-streams-requires c κs =
+    let s = c .before in
+    rw (standard-none _ _ _ _ _ (s .before .source-end .ensures) (s .if1 .taken)) at (s .before .before .before .before .before .before .pre .1)
 
 same-length : tie.Need-same-length Inv-loop μ-loop
 same-length c = search needs
 
 returns : tie.Need-returns Inv-loop μ-loop
-returns c = rw (standard-none _ _ _ _ _ (c .before .before .before .before .before .source-end .ensures) (c .before .before .before .before .if1 .taken)) (c .before .before .put-no-streams .ensures)
+returns c =
+    let s = c .before .before .before .before in
+    rw (standard-none _ _ _ _ _ (s .before .source-end .ensures) (s .if1 .taken)) (c .before .before .put-no-streams .ensures)
 
 loop-holds : tie.Need-loop-holds Inv-loop μ-loop
 loop-holds c =
@@ -56,9 +60,10 @@ same-length-2 c = long _ _ _ (c .before .loop .inv .2)
 returns-2 : tie.Need-returns-2 Inv-loop μ-loop
 returns-2 c =
     let a = c .before .before .before .before .before .before .before .before .args in
+    let s = c .before .before in
     let l = c .before .loop in
-    rw (standard-some _ _ _ _ _ (c .before .before .before .source-end .ensures) (l .inv .0 .source) (c .before .before .if1 .left))
-    (finished _ _ _ (l .inv .2) (standard-end (a .signs) (a .limit) (a .m .now) (a .cs .now) (a .ns .now) (l .i) (omega (arith, l .inv .0 .ends))))
+    let none = standard-end (a .signs) (a .limit) (a .m .now) (a .cs .now) (a .ns .now) (l .i) (omega (arith, l .inv .0 .ends)) in
+    rw (standard-some _ _ _ _ _ (s .before .source-end .ensures) (l .inv .0 .source) (s .if1 .left)) (finished _ _ _ (l .inv .2) none)
 
 pub standard-text-spec : {M : Type 1} → statement M
 standard-text-spec =

@@ -1,7 +1,6 @@
 -- `breakdown::total::total_length` meets its contract.
 -- Assumes nothing.
-use mathlib.Core.Path.{ap, sym}
-use lib.ListN.{length, length-append}
+use lib.ListN.{length-append}
 use native.Mathlib.Omega.{arith}
 use borrow.Author.Needs.{needs}
 use Rattle.breakdown.proofs.PieceTexts.{total-none, total-some}

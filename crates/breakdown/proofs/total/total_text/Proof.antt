@@ -1,6 +1,5 @@
 -- `breakdown::total::total_text` meets its contract.
 -- Assumes nothing.
-use mathlib.Core.List.{[], _∷_}
 use borrow.Author.Needs.{needs}
 use Rattle.number.proofs.Place.{room-first, room-next, wrote}
 use Rattle.breakdown.proofs.PieceTexts.{total-none, total-some}
@@ -24,14 +23,16 @@ slice-aggregate-put-bytes c = search needs
 
 put-bytes-requires : tie.Need-put-bytes-requires
 put-bytes-requires c κs =
-    room-next _ _ (c .before .before .before .before .put-u64 .ensures) (rw (total-some _ (c .before .before .before .before .before .before .if1 .left)) at (c .before .before .before .before .before .before .before .before .pre))
+    let s = c .before .before .before .before .before .before in
+    room-next _ _ (c .before .before .before .before .put-u64 .ensures) (rw (total-some _ (s .if1 .left)) at (s .before .before .pre))
 
 same-length-2 : tie.Need-same-length-2
 same-length-2 c = search needs
 
 returns-2 : tie.Need-returns-2
 returns-2 c =
-    rw (total-some _ (c .before .before .before .before .before .before .before .before .before .if1 .left)) (wrote _ _ (c .before .before .before .before .before .before .before .put-u64 .ensures) (c .before .before .put-bytes .ensures))
+    let w = wrote _ _ (c .before .before .before .before .before .before .before .put-u64 .ensures) (c .before .before .put-bytes .ensures) in
+    rw (total-some _ (c .before .before .before .before .before .before .before .before .before .if1 .left)) w
 
 pub total-text-spec : {M : Type 1} → statement M
 total-text-spec =

@@ -2,7 +2,6 @@
 -- Assumes nothing.
 use Prim.Native.Nat.{_-_, _≤_}
 use lib.ListN.{length, getD}
-use Rattle.measures.specs.Scan.{Paired}
 use Rattle.measures.proofs.Adding.{Adding, starts, small, low, added, finished}
 use native.Mathlib.Omega.{arith}
 use borrow.Author.Needs.{needs}
@@ -10,7 +9,7 @@ use Rattle.measures.proofs.scan.add_up.Statement.{statement}
 use Rattle.measures.proofs.scan.add_up.Tie as tie
 
 abbrev Inv-loop : tie.InvT-loop
-Inv-loop cs ns a₀ b₀ c₀ d₀ e₀ f₀ i₀ a b c d e f i = (w : Paired cs ns) × Adding cs ns w a b c d e f i
+Inv-loop cs ns a₀ b₀ c₀ d₀ e₀ f₀ i₀ a b c d e f i = Adding cs ns a b c d e f i
 
 abbrev μ-loop : tie.MeasureT-loop
 μ-loop cs ns a₀ b₀ c₀ d₀ e₀ f₀ i₀ a b c d e f i = length cs - i
@@ -18,14 +17,12 @@ abbrev μ-loop : tie.MeasureT-loop
 -- the sums and the length are small
 lows : (c : tie.In-loop Inv-loop μ-loop) →
     let l = c .before .loop in
-    (l .a ≤ 1048576) × (l .b ≤ 1048576) × (l .c ≤ 1048576) × (l .d ≤ 1048576) × (l .e ≤ 1048576) × (l .f ≤ 1048576) × (getD (c .before .before .before .before .args .ns .now) (l .i) 0 ≤ 1048576)
-lows c =
-    let l = c .before .loop in
-    let s = low (c .before .before .before .before .args .cs .now) (c .before .before .before .before .args .ns .now) (l .inv .0) (l .a) (l .b) (l .c) (l .d) (l .e) (l .f) (l .i) (l .inv .1) in
-    (s .0, s .1, s .2, s .3, s .4, s .5, small (c .before .before .before .before .args .cs .now) (c .before .before .before .before .args .ns .now) (l .inv .0) (l .i) (c .loop-test .taken))
+    ((l .a ≤ 1048576) × (l .b ≤ 1048576) × (l .c ≤ 1048576) × (l .d ≤ 1048576) × (l .e ≤ 1048576) × (l .f ≤ 1048576))
+    × (getD (c .before .before .before .before .args .ns .now) (l .i) 0 ≤ 1048576)
+lows c = (low (c .before .loop .inv), small (c .before .loop .inv) (c .loop-test .taken))
 
 loop-holds : tie.Need-loop-holds Inv-loop μ-loop
-loop-holds c = (c .before .before .pre, starts _ _ _)
+loop-holds c = starts (c .before .before .pre)
 
 shared-slice-read-x : tie.Need-shared-slice-read-x Inv-loop μ-loop
 shared-slice-read-x c = search needs
@@ -65,18 +62,19 @@ loop-less c = search needs
 
 loop-again : tie.Need-loop-again Inv-loop μ-loop
 loop-again c =
-    let l = c .before .before .before .before .before .before .before .before .before .before .loop in
-    let s = c .before .before .before .before .before .before .before .before .before .before .before .before .before .args in (
-      l .inv .0,
-      rw (c .before .before .before .before .before .before .add-if .ensures, c .before .before .before .before .before .add-if2 .ensures, c .before .before .before .before .add-if3 .ensures, c .before .before .before .add-if4 .ensures, c .before .before .add-if5 .ensures, c .add-if6 .ensures, c .before .wide .ensures .gap)
-          (added (s .cs .now) (s .ns .now) (l .inv .0) (l .a) (l .b) (l .c) (l .d) (l .e) (l .f) (l .i) (l .inv .1) (c .before .before .before .before .before .before .before .before .before .loop-test .taken)),
+    rw (
+      c .before .before .before .before .before .before .add-if .ensures,
+      c .before .before .before .before .before .add-if2 .ensures,
+      c .before .before .before .before .add-if3 .ensures,
+      c .before .before .before .add-if4 .ensures,
+      c .before .before .add-if5 .ensures,
+      c .add-if6 .ensures,
+      c .before .wide .ensures .gap,
     )
+    (added (c .before .before .before .before .before .before .before .before .before .before .loop .inv) (c .before .before .before .before .before .before .before .before .before .loop-test .taken))
 
 returns : tie.Need-returns Inv-loop μ-loop
-returns c =
-    let l = c .before .loop in
-    let s = c .before .before .before .before .args in
-    finished (s .cs .now) (s .ns .now) (l .inv .0) (l .a) (l .b) (l .c) (l .d) (l .e) (l .f) (l .i) (l .inv .1) (c .loop-test .left)
+returns c = finished (c .before .loop .inv) (c .loop-test .left)
 
 pub add-up-spec : {M : Type 1} → statement M
 add-up-spec =

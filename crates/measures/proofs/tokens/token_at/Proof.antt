@@ -1,6 +1,5 @@
 -- `measures::tokens::token_at` meets its contract.
 -- Assumes nothing.
-use mathlib.Core.Path.{_≡_, sym, ap, _∙_}
 use native.Mathlib.Omega.{arith}
 use borrow.Author.Needs.{needs}
 use Rattle.measures.proofs.Stepping.{run-fits, ended-at, token-from}
