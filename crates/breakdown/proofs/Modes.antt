@@ -22,7 +22,8 @@ use Rattle.rules.specs.declared.BreakdownMode.the-variants as Mode
 use Rattle.rules.specs.declared.StreamBreakdownLevel.{StreamBreakdownLevel}
 use Rattle.rules.specs.declared.StreamBreakdownLevel.the-variants as Level
 use Rattle.rules.proofs.Steps.{joins-long, short-one, short-long, Closed, tokens-closed, active-part}
-use Rattle.breakdown.specs.Source.{toks, from, Behind, Alternates, Source}
+use Rattle.measures.specs.Scan.{paired}
+use Rattle.breakdown.specs.Source.{from, Behind, Alternates, Source}
 use Rattle.breakdown.specs.Sn.{limitOf, snAt, textFrom, snText}
 use Rattle.breakdown.specs.Standard.{glue, merged, gapItem, standardOf, standardText, totalText}
 use Rattle.breakdown.proofs.Reading.{opens-break}
@@ -46,7 +47,7 @@ alternates (suc c ∷ cs) =
 
 -- ---- Source: tokens in two slices
 
-module _ (cs ns chart : List ℕ) (e : toks cs ns ≡ tokens (classes chart)) where
+module _ (cs ns chart : List ℕ) (e : paired cs ns ≡ tokens (classes chart)) where
   pub from-tokens : from [] cs ns 0 ≡ tokens (classes chart)
   from-tokens = e
 

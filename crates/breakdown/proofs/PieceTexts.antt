@@ -15,9 +15,9 @@ use Rattle.rules.specs.Texts.{part, strung, render}
 use Rattle.breakdown.specs.Put.{Measured}
 use Rattle.breakdown.specs.Source.{from, end, Source}
 use Rattle.breakdown.specs.Sn.{breakTokens}
-use Rattle.breakdown.specs.Standard.{gapItem, piecesText, standardOf, standardText, totalText, pieceText, NextPiece}
+use Rattle.breakdown.specs.Standard.{gapItem, piecesText, standardText, totalText, pieceText, NextPiece}
 use Rattle.breakdown.proofs.Loop.{Going, room, step, Counted, counted}
-use Rattle.breakdown.proofs.Reading.{past-end, some-token}
+use Rattle.breakdown.proofs.Reading.{past-end, token-here}
 
 -- the text from place i on
 abbrev pub textAt : Bool → ℕ → List ℕ → List ℕ → List ℕ → ℕ → List ℕ
@@ -52,11 +52,7 @@ module _ (b : Bool) (k : ℕ) (m cs ns : List ℕ) where
     standard-none h = rw (past-end m cs ns 0 (omega arith))
 
     pub standard-some : Source m cs ns → last ≢ 0 → standardText b k m cs ns ≡ textAt b k m cs ns 0
-    standard-some s h = go (from m cs ns 0) (some-token s (record { inside = omega arith }))
-      where
-        go : (ts : List Token) → ts ≢ [] → standardOf b k ts ≡ piecesText b k ts
-        go [] e = absurd (e refl)
-        go (t ∷ ts) e = refl
+    standard-some s h = rw (token-here {i = 0} s (record { inside = omega arith }) .here .rest)
 
 pub total-some : (n : ℕ) → n ≢ 0 → totalText n ≡ digits n ++ bytes " Total"
 unfolding render

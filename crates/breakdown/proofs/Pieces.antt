@@ -5,7 +5,7 @@ use mathlib.Core.Path.{_≡_, refl, sym, ap, _∙_}
 use mathlib.Core.Bool.{Bool, true, false}
 use mathlib.Core.Logic.{_≢_}
 use mathlib.Core.List.{List, [], _∷_}
-use native.Mathlib.Nat.{add-assoc, suc-ne-zero}
+use native.Mathlib.Nat.{add-assoc, zero-add, suc-ne-zero}
 use native.Mathlib.Omega.{arith}
 use borrow.Author.Tests.{le-leb, lt-leb}
 use Rattle.rules.specs.Chart.{Token, token}
@@ -13,7 +13,7 @@ use Rattle.rules.specs.Reduced.{joinFrom, join}
 use Rattle.rules.proofs.Steps.{joins-long, join-not}
 use Rattle.breakdown.specs.Source.{from, end, Behind, Opens, NextToken, firstClass}
 use Rattle.breakdown.specs.Standard.{glue, merged, NextPiece}
-use Rattle.breakdown.proofs.Reading.{past-end, Broken, break-at}
+use Rattle.breakdown.proofs.Reading.{past-end, token-here, Broken, break-at}
 use Rattle.breakdown.proofs.Groups.{break-tokens}
 
 -- what a pending piece of n measures and the tokens after it are
@@ -60,14 +60,15 @@ module _ (k n : ℕ) (s : Bool) where
   after-apart g (token zero m t ∷ ts) h l = absurd (h refl)
   after-apart g (token (suc c) m t ∷ ts) h l = apart k n s c m t g (merged ts) l
 
-first-piece : (k c m : ℕ) (ts : List Token) → c ≢ 0 → join k (merged (token c m false ∷ ts)) ≡ after k m false ts
-first-piece k zero m ts h = absurd (h refl)
-first-piece k (suc c) m ts h = ap (join k) (go (merged ts))
+-- a piece of no measures before a run
+none-before : (k c m : ℕ) (ts : List Token) → c ≢ 0 → join k (merged (token c m false ∷ ts)) ≡ after k 0 false (token c m false ∷ ts)
+none-before k zero m ts h = absurd (h refl)
+none-before k (suc c) m ts h = ap (join k) (go (merged ts))
   where
-    go : (ps : List Token) → glue (token (suc c) m false) ps ≡ glue (token 1 m false) ps
-    go [] = refl
-    go (token zero x r ∷ ps) = refl
-    go (token (suc d) x r ∷ ps) = refl
+    go : (ps : List Token) → glue (token (suc c) m false) ps ≡ glue (token 1 0 false) (glue (token (suc c) m false) ps)
+    go [] = rw zero-add
+    go (token zero x r ∷ ps) = rw zero-add
+    go (token (suc d) x r ∷ ps) = rw zero-add
 
 -- ---- the loop: `last` is the class of the token before place j
 
@@ -75,28 +76,28 @@ pub record Pending (m cs ns : List ℕ) (k i n : ℕ) (s : Bool) (j : ℕ) : Typ
   pub rest : join k (merged (from m cs ns i)) ≡ after k n s (from m cs ns j)
   pub last : ℕ
   pub behind : Behind last (from m cs ns j)
-  pub small : n < 4294967296 * j
-  pub on : i < j
+  pub small : n ≤ 4294967296 * j
+  pub on : i ≤ j
   pub within : j ≤ end m cs
 
-pub starts : {m cs ns : List ℕ} (k : ℕ) {i c n j : ℕ} → Opens m cs ns i
-    → NextToken m cs ns i c n j → n < 4294967296 → Pending m cs ns k i n false j
-starts {m} {cs} {ns} k {c = c} {n} {j} o t b =
-    let a = rw (t .rest) at (o .alternates) in
+pub starts : {m cs ns : List ℕ} (k : ℕ) {i : ℕ} → Opens m cs ns i → Pending m cs ns k i 0 false i
+starts {m} {cs} {ns} k o =
+    let t = token-here (o .source) (o .within) in
+    let a = rw (t .here .rest) at (o .alternates) in
     record {
-      rest = rw (t .rest) (first-piece k c n (from m cs ns j) (λ e. a .0 e .0 refl));
-      last = c;
-      behind = a .1;
-      small = omega (arith, t .on);
-      on = t .on;
-      within = t .within;
+      rest = rw (t .here .rest) (none-before k (t .class) (t .len) (from m cs ns (t .next)) (λ e. a .0 e .0 refl));
+      last = 0;
+      behind = rw (t .here .rest) a;
+      small = omega arith;
+      on = omega arith;
+      within = omega (arith, o .within .inside);
     }
 
 module _ {m cs ns : List ℕ} {k i n : ℕ} {s : Bool} {j : ℕ} (p : Pending m cs ns k i n s j) where
-  pub finished : end m cs ≤ j → NextPiece m cs ns k i n s 0 j
-  finished h =
+  pub finished : i < end m cs → end m cs ≤ j → NextPiece m cs ns k i n s 0 j
+  finished l h =
       let e = past-end m cs ns j h in
-      record { rest = p .rest ∙ rw e; on = p .on; within = p .within; alternates = rw e tt }
+      record { rest = p .rest ∙ rw e; on = omega arith; within = p .within; alternates = rw e tt }
 
   module _ {d g next : ℕ} (u : NextToken m cs ns j d g next) where
     pub run-on : d ≢ 0 → g < 4294967296 → Pending m cs ns k i (n + g) s next

@@ -1,7 +1,7 @@
 -- Tokens from a place on, read in two slices or off the measures.
 -- Assumes nothing.
 use Prim.Native.Nat.{ℕ, zero, suc, _+_, _≤_, _<_}
-use mathlib.Core.Path.{_≡_, refl, sym, ap, _∙_}
+use mathlib.Core.Path.{_≡_, refl, ap, _∙_}
 use mathlib.Core.Bool.{false}
 use mathlib.Core.Logic.{_≢_}
 use mathlib.Core.List.{List, [], _∷_}
@@ -19,46 +19,34 @@ use Rattle.rules.specs.declared.ViewToken.{ViewToken}
 use Rattle.rules.proofs.Steps.{map-drop}
 use Rattle.rules.proofs.View.{leading, first-run}
 use Rattle.measures.proofs.Stepping.{run-fits}
-use Rattle.breakdown.specs.Source.{toks, from, end, Behind, Alternates, Source, Within, Opens, NextToken, firstClass, ClassAt}
+use Rattle.measures.specs.Scan.{paired}
+use Rattle.breakdown.specs.Source.{from, end, Behind, Alternates, Source, Within, Opens, NextToken, firstClass, ClassAt}
 
 -- ---- which of the two it is
 
-module _ (m cs : List ℕ) where
-  pub end-slices : length m ≡ 0 → end m cs ≡ length cs
-  end-slices h = go m h
-    where
-      go : (m : List ℕ) → length m ≡ 0 → end m cs ≡ length cs
-      go [] h = refl
-      go (d ∷ m) h = absurd (omega arith)
+pub end-slices : (m cs : List ℕ) → length m ≡ 0 → end m cs ≡ length cs
+end-slices [] cs h = refl
+end-slices (d ∷ m) cs h = absurd (omega arith)
 
-  pub end-measures : length m ≢ 0 → end m cs ≡ length m
-  end-measures h = go m h
-    where
-      go : (m : List ℕ) → length m ≢ 0 → end m cs ≡ length m
-      go [] h = absurd (h refl)
-      go (d ∷ m) h = refl
+pub end-measures : (m cs : List ℕ) → length m ≢ 0 → end m cs ≡ length m
+end-measures [] cs h = absurd (h refl)
+end-measures (d ∷ m) cs h = refl
 
-  pub end-few : {ns : List ℕ} → Source m cs ns → end m cs ≤ 1048576
-  end-few s = split (eqb (length m) 0) (λ e. omega (arith, s .few .0, end-slices (eqb-true _ _ e))) (λ e. omega (arith, s .few .1, end-measures (eqb-false _ _ e)))
+in-slices-from : (m cs ns : List ℕ) (i : ℕ) → length m ≡ 0 → from m cs ns i ≡ drop i (paired cs ns)
+in-slices-from [] cs ns i h = refl
+in-slices-from (d ∷ m) cs ns i h = absurd (omega arith)
 
-  module _ (ns : List ℕ) (i : ℕ) where
-    from-slices : length m ≡ 0 → from m cs ns i ≡ drop i (toks cs ns)
-    from-slices h = go m h
-      where
-        go : (m : List ℕ) → length m ≡ 0 → from m cs ns i ≡ drop i (toks cs ns)
-        go [] h = refl
-        go (d ∷ m) h = absurd (omega arith)
+in-measures-from : (m cs ns : List ℕ) (i : ℕ) → length m ≢ 0 → from m cs ns i ≡ runs (classes (drop i m))
+in-measures-from [] cs ns i h = absurd (h refl)
+in-measures-from (d ∷ m) cs ns i h = refl
 
-    from-measures : length m ≢ 0 → from m cs ns i ≡ runs (classes (drop i m))
-    from-measures h = go m h
-      where
-        go : (m : List ℕ) → length m ≢ 0 → from m cs ns i ≡ runs (classes (drop i m))
-        go [] h = absurd (h refl)
-        go (d ∷ m) h = refl
+pub end-few : (m cs : List ℕ) {ns : List ℕ} → Source m cs ns → end m cs ≤ 1048576
+end-few [] cs s = s .few .0
+end-few (d ∷ m) cs s = s .few .1
 
 -- ---- past the end
 
-none-left : (cs ns : List ℕ) (i : ℕ) → length cs ≤ i → drop i (toks cs ns) ≡ []
+none-left : (cs ns : List ℕ) (i : ℕ) → length cs ≤ i → drop i (paired cs ns) ≡ []
 none-left [] ns zero h = refl
 none-left [] ns (suc i) h = refl
 none-left (c ∷ cs) ns zero h = absurd (not-suc-le-zero h)
@@ -72,7 +60,7 @@ past-end (d ∷ m) cs ns i h = rw (drop-of-length-le (d ∷ m) h)
 -- ---- the token in two slices
 
 slices-next : (cs ns : List ℕ) (i : ℕ) → length cs ≡ length ns → i < length cs
-    → drop i (toks cs ns) ≡ token (getD cs i 0) (getD ns i 0) false ∷ drop (suc i) (toks cs ns)
+    → drop i (paired cs ns) ≡ token (getD cs i 0) (getD ns i 0) false ∷ drop (suc i) (paired cs ns)
 slices-next [] ns i e h = absurd (not-suc-le-zero h)
 slices-next (c ∷ cs) [] i e h = absurd (omega arith)
 slices-next (c ∷ cs) (n ∷ ns) zero e h = refl
@@ -83,12 +71,12 @@ module _ {m cs : List ℕ} {i : ℕ} (w : Within m cs i) (none : length m ≡ 0)
   in-slices = omega (arith, w .inside, end-slices m cs none)
 
   pub slices-class : ClassAt m cs i (getD cs i 0)
-  slices-class ns e = ap firstClass (from-slices m cs ns i none ∙ slices-next cs ns i e in-slices)
+  slices-class ns e = ap firstClass (in-slices-from m cs ns i none ∙ slices-next cs ns i e in-slices)
 
   pub slices-token : {ns : List ℕ} → Source m cs ns → NextToken m cs ns i (getD cs i 0) (getD ns i 0) (i + 1)
   slices-token {ns} s =
       record {
-        rest = from-slices m cs ns i none ∙ slices-next cs ns i (s .long) in-slices ∙ rw (from-slices m cs ns (i + 1) none, add-one);
+        rest = in-slices-from m cs ns i none ∙ slices-next cs ns i (s .long) in-slices ∙ rw (in-slices-from m cs ns (i + 1) none, add-one);
         on = omega arith;
         within = omega (arith, w .inside);
       }
@@ -123,7 +111,7 @@ module _ {m cs : List ℕ} {i : ℕ} (w : Within m cs i) (some : length m ≢ 0)
   in-measures = omega (arith, w .inside, end-measures m cs some)
 
   pub measures-class : ClassAt m cs i (classOf (getD m i 0))
-  measures-class ns e = rw (from-measures m cs ns i some, drop-cons m i 0 in-measures, first-token (getD m i 0) (drop (suc i) m))
+  measures-class ns e = rw (in-measures-from m cs ns i some, drop-cons m i 0 in-measures, first-token (getD m i 0) (drop (suc i) m))
 
   module _ {t : ViewToken} (e : t ≡ stepAt 0 (drop i m)) where
     step-here : Stepped (drop i m) t
@@ -135,18 +123,25 @@ module _ {m cs : List ℕ} {i : ℕ} (w : Within m cs i) (some : length m ≢ 0)
     pub measures-token : (ns : List ℕ) → NextToken m cs ns i (t .class) (t .length) (i + t .length)
     measures-token ns =
         record {
-          rest = from-measures m cs ns i some ∙ step-here .rest ∙ rw (from-measures m cs ns (i + t .length) some, drop-drop (t .length) i m);
+          rest = in-measures-from m cs ns i some ∙ step-here .rest ∙ rw (in-measures-from m cs ns (i + t .length) some, drop-drop (t .length) i m);
           on = omega (arith, step-here .some);
           within = rw (end-measures m cs some) step-fits;
         }
 
 -- ---- a place before the end has a token
 
-pub some-token : {m cs ns : List ℕ} {i : ℕ} → Source m cs ns → Within m cs i → from m cs ns i ≢ []
-some-token {m} {ns = ns} s w e =
+pub record Here (m cs ns : List ℕ) (i : ℕ) : Type 0 where
+  pub class : ℕ
+  pub len : ℕ
+  pub next : ℕ
+  pub here : NextToken m cs ns i class len next
+
+pub token-here : {m cs ns : List ℕ} {i : ℕ} → Source m cs ns → Within m cs i → Here m cs ns i
+token-here {m} {cs} {ns} {i} s w =
+    let t = stepAt 0 (drop i m) in
     split (eqb (length m) 0)
-    (λ z. omega (arith, ap length (sym (slices-token w (eqb-true _ _ z) s .rest) ∙ e)))
-    (λ z. omega (arith, ap length (sym (measures-token w (eqb-false _ _ z) refl ns .rest) ∙ e)))
+    (λ z. record { class = getD cs i 0; len = getD ns i 0; next = i + 1; here = slices-token w (eqb-true _ _ z) s })
+    (λ z. record { class = t .class; len = t .length; next = i + t .length; here = measures-token w (eqb-false _ _ z) refl ns })
 
 -- ---- what stands behind a token
 

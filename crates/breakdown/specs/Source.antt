@@ -7,16 +7,11 @@ use mathlib.Core.Logic.{_≢_}
 use mathlib.Core.List.{List, [], _∷_}
 use lib.ListN.{length, drop}
 use Rattle.rules.specs.Chart.{classes, Token, token, class, runs}
-
--- tokens in two slices: class numbers and lengths, one by one
-abbrev pub toks : List ℕ → List ℕ → List Token
-toks [] ns = []
-toks (c ∷ cs) [] = []
-toks (c ∷ cs) (n ∷ ns) = token c n false ∷ toks cs ns
+use Rattle.measures.specs.Scan.{paired}
 
 -- the tokens from place i on: those in the slices cs, ns where there are no measures m, else those of m
 abbrev pub from : List ℕ → List ℕ → List ℕ → ℕ → List Token
-from [] cs ns i = drop i (toks cs ns)
+from [] cs ns i = drop i (paired cs ns)
 from (d ∷ m) cs ns i = runs (classes (drop i (d ∷ m)))
 
 -- one past the last place

@@ -45,6 +45,7 @@ pub fn put_run(out: &mut [u8], at: usize, class: u8, n: u64, starred: bool) -> u
     put_byte(out, c, star_byte(starred))
 }
 
+// How many bytes a run has.
 pub fn run_length(class: u8, n: u64, starred: bool) -> usize
     ensures { λ r. ⌜ Measured (word (run class n starred)) 23 r ⌝ }
 {

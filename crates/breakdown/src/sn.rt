@@ -95,6 +95,7 @@ fn lead_byte(i: usize) -> u8
     b' '
 }
 
+// A break that is shown, as a sign or, in detailed, by its length; nothing if it is 0.
 fn put_break(out: &mut [u8], at: usize, limit: u32, n: u32) -> usize
     requires { ⌜ Room (now out) at (breakText limit n) ⌝ }
     ensures { λ r. ⌜ Wrote (now (out .entry)) (now (out .exit)) at (breakText limit n) r ⌝ }

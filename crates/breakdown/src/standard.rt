@@ -33,10 +33,9 @@ fn next_piece(m: &[u32], cs: &[u8], ns: &[u32], limit: u32, i: usize) -> Piece
     ensures { λ r. ⌜ NextPiece (now (m .entry)) (now (cs .entry)) (now (ns .entry)) limit i (r .length) (r .starred) (r .gap) (r .next) ⌝ }
 {
     let end = source_end(m, cs);
-    let first = token_at(m, cs, ns, i);
-    let mut length = first.length as u64;
+    let mut length: u64 = 0;
     let mut starred = false;
-    let mut j = first.next;
+    let mut j = i;
     while j < end {
         let t = token_at(m, cs, ns, j);
         if t.class == 0 {
@@ -82,6 +81,7 @@ fn put_sign(out: &mut [u8], at: usize, n: u32) -> usize
     put_byte(out, b, pad)
 }
 
+// A gap that is shown, as a sign or by its length; nothing if it is 0.
 fn put_gap(out: &mut [u8], at: usize, signs: bool, n: u32) -> usize
     requires { ⌜ Room (now out) at (gapText signs n) ⌝ }
     ensures { λ r. ⌜ Wrote (now (out .entry)) (now (out .exit)) at (gapText signs n) r ⌝ }

@@ -19,6 +19,7 @@ pub fn total_text(streams: u64, out: &mut [u8], at: usize) -> usize
     put_bytes(out, a, b" Total")
 }
 
+// How many bytes it has.
 pub fn total_length(streams: u64) -> usize
     ensures { λ r. ⌜ r ≡ length (totalText streams) ⌝ }
 {

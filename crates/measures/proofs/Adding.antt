@@ -12,8 +12,9 @@ use lib.ListN.{length, drop, getD}
 use borrow.Author.Tests.{ne-eqb}
 use Rattle.rules.specs.Chart.{Token, token, wideGaps}
 use Rattle.number.proofs.Split.{split}
+use Rattle.rules.proofs.Cost.{total}
 use Rattle.measures.specs.Sums.{held, wideOf, sumsOf}
-use Rattle.measures.specs.Scan.{paired, total, Paired}
+use Rattle.measures.specs.Scan.{paired, Paired}
 use Rattle.measures.proofs.Counted.{held-most, wide-most}
 
 -- the token at i, and those after it

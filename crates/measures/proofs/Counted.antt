@@ -10,8 +10,9 @@ use lib.ListN.{length, length-drop, length-map}
 use borrow.Author.Tests.{eqb-true, ne-eqb}
 use Rattle.rules.specs.Chart.{Token, token, class, len, leadIn, fromFirst, keep, toLast, active, runsFrom, runs, count, streams, wideGaps, counts, noCounts, classes, tokens}
 use Rattle.number.proofs.Split.{split}
+use Rattle.rules.proofs.Cost.{total, total-runs}
 use Rattle.measures.specs.Sums.{held, wideOf, Summed}
-use Rattle.measures.specs.Scan.{paired, total}
+use Rattle.measures.specs.Scan.{paired}
 use Rattle.measures.specs.declared.counts.Sums.{Sums}
 use Rattle.measures.proofs.Part.{first-drop, part-within, active-length}
 
@@ -29,14 +30,6 @@ held-from c d n (x ∷ cs) =
 pub held-runs : (c : ℕ) (cs : List ℕ) → held c (runs cs) ≡ count c cs
 held-runs c [] = refl
 held-runs c (d ∷ cs) = rw (held-from c d 1 cs) (split (eqb c d) (λ q. rw q (omega arith)) (λ q. rw q (omega arith)))
-
-total-from : (c n : ℕ) (cs : List ℕ) → total (runsFrom c n cs) ≡ n + length cs
-total-from c n [] = refl
-total-from c n (d ∷ cs) = split (eqb c d) (λ e. rw (e, total-from c (suc n) cs) (omega arith)) (λ e. rw (e, total-from d 1 cs) (omega arith))
-
-pub total-runs : (cs : List ℕ) → total (runs cs) ≡ length cs
-total-runs [] = refl
-total-runs (c ∷ cs) = total-from c 1 cs ∙ omega arith
 
 paired-from : (c n : ℕ) (cs : List ℕ) → paired (map class (runsFrom c n cs)) (map len (runsFrom c n cs)) ≡ runsFrom c n cs
 paired-from c n [] = refl

@@ -1,11 +1,10 @@
 -- For alike: stream measures at the same places, and from there to the standard detailed texts.
 -- Assumes nothing.
-use Prim.Native.Nat.{ℕ, zero, suc, _+_, _≤_, _<_, suc-le-suc}
+use Prim.Native.Nat.{ℕ, _+_, _≤_, _<_}
 use mathlib.Core.Path.{_≡_, refl, sym, ap, _∙_}
 use mathlib.Core.Bool.{Bool, true, false, not, Bool·beq, and-eq-true-iff, false≢true}
 use mathlib.Core.Logic.{_↔_, inl, inr}
 use mathlib.Core.List.{List, [], _∷_}
-use native.Mathlib.Nat.{suc-ne-zero}
 use native.Mathlib.Omega.{arith}
 use lib.Dec.{eqb, ltb}
 use lib.ListN.{length, getD, length-map}
@@ -15,9 +14,10 @@ use Rattle.number.proofs.Split.{split}
 use Rattle.rules.specs.Chart.{classOf, classes, active, activePart}
 use Rattle.rules.specs.Reduced.{standard}
 use Rattle.rules.specs.Texts.{text}
-use Rattle.rules.specs.Demand.{Stream, NoStream, SamePlaces, SameStreams}
+use Rattle.rules.specs.Demand.{Stream, SamePlaces, SameStreams}
 use Rattle.rules.specs.declared.StreamBreakdownLevel.the-variants as Level
 use Rattle.rules.proofs.Steps.{class-0, active-part}
+use Rattle.rules.proofs.Places.{no-active}
 use Rattle.rules.proofs.Demand.{exactly}
 use Rattle.measures.specs.Answers.{sameBytes}
 use Rattle.measures.proofs.Part.{stream-class, class-of-place}
@@ -98,12 +98,6 @@ both-ways : (r s : Bool) → (r ≡ true → s ≡ true) → (s ≡ true → r �
 both-ways true s f g = sym (f refl)
 both-ways false true f g = g refl
 both-ways false false f g = refl
-
-no-active : (cs : List ℕ) → NoStream cs → active cs ≡ []
-unfolding active
-no-active [] h = refl
-no-active (zero ∷ cs) h = no-active cs (λ i k. h (suc i) (suc-le-suc k))
-no-active (suc c ∷ cs) h = absurd (suc-ne-zero c (h 0 (omega arith)))
 
 in-active : (x y : List ℕ) → SameStreams x y → SamePlaces (active x) (active y)
 in-active x y (inr s) = s

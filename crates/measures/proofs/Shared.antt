@@ -13,7 +13,8 @@ use Rattle.rules.specs.Chart.{classOf, classes, runs, count, streams, counts}
 use Rattle.rules.specs.Calls.{share}
 use Rattle.rules.specs.declared.StreamCounts.{StreamCounts}
 use Rattle.rules.proofs.Steps.{class-0, class-1, class-2, class-3, class-4}
-use Rattle.measures.proofs.Counted.{wide-most, total-runs}
+use Rattle.rules.proofs.Cost.{total-runs}
+use Rattle.measures.proofs.Counted.{wide-most}
 
 by-class : (m : List ℕ) → let cs = classes m in count 1 cs + count 2 cs + count 3 cs + count 4 cs ≡ streams cs
 by-class [] = refl

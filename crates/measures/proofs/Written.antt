@@ -8,8 +8,9 @@ use lib.ListN.{length, take, drop, length-append, length-map}
 use lib.Seq.{take-at, length-take-le}
 use Rattle.number.specs.Questions.{filled}
 use Rattle.rules.specs.Chart.{classes, Token, class, len, runs}
+use Rattle.rules.proofs.Cost.{total-runs}
 use Rattle.measures.specs.Scan.{InSlices, paired, Paired}
-use Rattle.measures.proofs.Counted.{total-runs, paired-runs}
+use Rattle.measures.proofs.Counted.{paired-runs}
 
 module _ {ts : List Token} {k : ℕ} {cs₀ cs₁ ns₀ ns₁ : List ℕ} (w : InSlices ts k cs₀ cs₁ ns₀ ns₁) where
   within : (f : Token → ℕ) (old new : List ℕ) → new ≡ filled old (map f ts) → k ≤ length new

@@ -1,12 +1,13 @@
 -- What the scan into tokens and the functions below it ask and promise.
 -- Assumes nothing.
-use Prim.Native.Nat.{ℕ, zero, suc, _+_, _≤_}
+use Prim.Native.Nat.{ℕ, zero, suc, _≤_}
 use mathlib.Core.Path.{_≡_}
 use mathlib.Core.Bool.{false}
 use mathlib.Core.List.{List, [], _∷_, map}
 use lib.ListN.{length}
 use Rattle.number.specs.Questions.{filled}
 use Rattle.rules.specs.Chart.{classes, Token, token, class, len, runs, tokens, counts}
+use Rattle.rules.proofs.Cost.{total}
 use Rattle.measures.specs.declared.scan.ScanAnswer.{ScanAnswer}
 
 -- the n numbers from i on
@@ -31,15 +32,11 @@ pub record InSlices (ts : List Token) (r : ℕ) (cs₀ cs₁ ns₀ ns₁ : List 
   pub inClasses : cs₁ ≡ filled cs₀ (map class ts)
   pub inLengths : ns₁ ≡ filled ns₀ (map len ts)
 
--- class numbers and lengths, one by one, as tokens, and how many measures these hold
+-- class numbers and lengths, one by one, as tokens
 abbrev pub paired : List ℕ → List ℕ → List Token
 paired [] ns = []
 paired (c ∷ cs) [] = []
 paired (c ∷ cs) (n ∷ ns) = token c n false ∷ paired cs ns
-
-abbrev pub total : List Token → ℕ
-total [] = 0
-total (token c n s ∷ ts) = n + total ts
 
 -- tokens in two slices, of few enough measures
 pub record Paired (cs ns : List ℕ) : Type 0 where

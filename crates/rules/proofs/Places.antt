@@ -77,7 +77,7 @@ places-flat x y h =
     ext-getD 0 (map flat x) (map flat y) (length-map x flat ∙ h .long ∙ sym (length-map y flat))
     (λ i k. List·getD-map flat x i 0 ∙ stream-flat (getD x i 0) (getD y i 0) (h .places i (rw length-map at k)) ∙ sym (List·getD-map flat y i 0))
 
-no-active : (cs : List ℕ) → NoStream cs → active cs ≡ []
+pub no-active : (cs : List ℕ) → NoStream cs → active cs ≡ []
 unfolding active
 no-active [] h = refl
 no-active (zero ∷ cs) h = no-active cs (λ i k. h (suc i) (suc-le-suc k))

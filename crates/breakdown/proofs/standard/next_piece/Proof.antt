@@ -20,30 +20,24 @@ abbrev μ-loop : tie.MeasureT-loop
 source-end-requires : tie.Need-source-end-requires Inv-loop μ-loop
 source-end-requires c κs = tt
 
-token-at-requires : tie.Need-token-at-requires Inv-loop μ-loop
-token-at-requires c κs = let p = c .before .before .before .before .pre in (p .source, p .within)
-
-cast-length : tie.Need-cast-length Inv-loop μ-loop
-cast-length c = omega arith
-
 loop-holds : tie.Need-loop-holds Inv-loop μ-loop
-loop-holds c =
-    let p = c .before .before .before .before .before .before .pre in
-    (p .source, c .before .before .source-end .ensures, starts _ p (c .before .token-at .ensures) (omega arith))
+loop-holds c = let p = c .before .before .before .before .pre in (p .source, c .source-end .ensures, starts _ p)
 
-token-at-requires-2 : tie.Need-token-at-requires-2 Inv-loop μ-loop
-token-at-requires-2 c κs = (c .before .loop .inv .0, record { inside = omega arith })
+token-at-requires : tie.Need-token-at-requires Inv-loop μ-loop
+token-at-requires c κs = (c .before .loop .inv .0, record { inside = omega arith })
 
 returns : tie.Need-returns Inv-loop μ-loop
 returns c =
     let s = c .before .before .before .before in
-    parted (s .before .before .loop .inv .2) (s .token-at2 .ensures) (c .before .before .if1 .taken) (c .if2 .taken)
+    parted (s .before .before .loop .inv .2) (s .token-at .ensures) (c .before .before .if1 .taken) (c .if2 .taken)
 
-cast-length-2 : tie.Need-cast-length-2 Inv-loop μ-loop
-cast-length-2 c = omega arith
+cast-length : tie.Need-cast-length Inv-loop μ-loop
+cast-length c = omega arith
 
 add-length : tie.Need-add-length Inv-loop μ-loop
-add-length c = let l = c .before .before .before .before .before .loop in omega (arith, l .inv .2 .small, l .inv .2 .within, end-few _ _ (l .inv .0))
+add-length c =
+    let l = c .before .before .before .before .before .loop in
+    omega (arith, l .inv .2 .small, l .inv .2 .within, end-few _ _ (l .inv .0))
 
 loop-less : tie.Need-loop-less Inv-loop μ-loop
 loop-less c = omega arith
@@ -51,14 +45,14 @@ loop-less c = omega arith
 loop-again : tie.Need-loop-again Inv-loop μ-loop
 loop-again c =
     let l = c .before .before .before .before .before .loop in
-    let u = c .before .before .before .token-at2 .ensures in
+    let u = c .before .before .before .token-at .ensures in
     ⊎-elim
     (λ w. (l .inv .0, l .inv .1, rw (w .3) (gap-on (l .inv .2) u (w .0 .taken) (w .2 .left) (omega arith))))
     (λ w. (l .inv .0, l .inv .1, rw (w .1) (run-on (l .inv .2) u (w .0 .left) (omega arith))))
     (c .before .if1 .came)
 
 returns-2 : tie.Need-returns-2 Inv-loop μ-loop
-returns-2 c = finished (c .before .loop .inv .2) (omega arith)
+returns-2 c = finished (c .before .loop .inv .2) (c .before .before .before .before .before .before .pre .within .inside) (omega arith)
 
 pub next-piece-spec : {M : Type 1} → statement M
 next-piece-spec =
@@ -67,12 +61,10 @@ next-piece-spec =
     Inv-loop
     μ-loop
     source-end-requires
-    token-at-requires
-    cast-length
     loop-holds
-    token-at-requires-2
+    token-at-requires
     returns
-    cast-length-2
+    cast-length
     add-length
     loop-less
     loop-again

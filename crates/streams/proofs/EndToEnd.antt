@@ -1,0 +1,88 @@
+-- Three texts end to end: their length, and how the promise of the calls that write them follows.
+-- Assumes nothing.
+use Prim.Native.Nat.{ℕ, _+_, _*_, _-_, _≤_, _<_}
+use mathlib.Core.Path.{_≡_}
+use mathlib.Core.Bool.{true, false}
+use mathlib.Core.List.{List, [], _∷_, append-nil}
+use native.Mathlib.Nat.{zero-add}
+use native.Mathlib.Omega.{arith}
+use lib.Dec.{leb}
+use lib.ListN.{length, length-append, replicate}
+use borrow.Author.Tests.{le-leb, lt-leb, leb-true}
+use Rattle.number.specs.Place.{Room, Wrote}
+use Rattle.number.proofs.Place.{at-start, room-first, room-next, wrote}
+use Rattle.rules.specs.Reduced.{Kind, sn, standard}
+use Rattle.rules.specs.Texts.{text, snKinds, standardKinds, endToEnd}
+use Rattle.rules.specs.declared.BreakdownMode.the-variants as Mode
+use Rattle.rules.specs.declared.StreamBreakdownLevel.the-variants as Level
+use Rattle.rules.proofs.Bound.{text-most}
+use Rattle.measures.specs.Domain.{Domain}
+use Rattle.streams.specs.Promises.{threeNo, Breakdowns}
+use Rattle.streams.specs.declared.ThreeWritten.{ThreeWritten}
+
+module _ (k₁ k₂ k₃ : Kind) (m : List ℕ) where
+  abbrev ks : List Kind
+  ks = k₁ ∷ k₂ ∷ k₃ ∷ []
+
+  abbrev whole : List ℕ
+  whole = endToEnd ks m
+
+  pub three-length : length whole ≡ length (text k₁ m) + (length (text k₂ m) + length (text k₃ m))
+  three-length = simp (append-nil, length-append)
+
+  module _ (old : List ℕ) where
+    abbrev refusal : ℕ → ThreeWritten
+    refusal n = record { refused = n; lengths = replicate 3 0 }
+
+    pub three-1 : 1048576 < length m → Breakdowns ks m old old (refusal 1)
+    three-1 h =
+        let no : threeNo ks m old ≡ 1 = rw (lt-leb (length m) 1048576 h) in
+        record { answer = rw no; bytes = rw no }
+
+    module _ (d : length m ≤ 1048576) where
+      pub three-4 : leb (length whole) (length old) ≡ false → Breakdowns ks m old old (refusal 4)
+      three-4 h =
+          let no : threeNo ks m old ≡ 4 = rw (le-leb (length m) 1048576 d, h) in
+          record { answer = rw no; bytes = rw no }
+
+      -- one text after the other, each where the one before it ended
+      module _ (h : leb (length whole) (length old) ≡ true) where
+        fits : length whole ≤ length old
+        fits = leb-true (length whole) (length old) h
+
+        room : Room old 0 whole
+        room = record { fits = rw zero-add fits }
+
+        pub room-1 : Domain m × Room old 0 (text k₁ m)
+        room-1 = (record { few = d }, room-first (text k₁ m) (endToEnd (k₂ ∷ k₃ ∷ []) m) room)
+
+        module _ {mid : List ℕ} {a : ℕ} (u : Wrote old mid 0 (text k₁ m) a) where
+          room-rest : Room mid a (endToEnd (k₂ ∷ k₃ ∷ []) m)
+          room-rest = room-next (text k₁ m) (endToEnd (k₂ ∷ k₃ ∷ []) m) u room
+
+          pub room-2 : Domain m × Room mid a (text k₂ m)
+          room-2 = (record { few = d }, room-first (text k₂ m) (endToEnd (k₃ ∷ []) m) room-rest)
+
+          module _ {mid₂ : List ℕ} {b : ℕ} (v : Wrote mid mid₂ a (text k₂ m) b) where
+            pub room-3 : Domain m × Room mid₂ b (text k₃ m)
+            room-3 = (record { few = d }, room-first (text k₃ m) [] (room-next (text k₂ m) (endToEnd (k₃ ∷ []) m) v room-rest))
+
+            pub three-0 : {new : List ℕ} {c : ℕ} → Wrote mid₂ new b (text k₃ m) c
+                → Breakdowns ks m old new (record { refused = 0; lengths = a ∷ (b - a) ∷ (c - b) ∷ [] })
+            three-0 {new} {c} w =
+                let no : threeNo ks m old ≡ 0 = rw (le-leb (length m) 1048576 d, h) in
+                let last : Wrote mid₂ new b (endToEnd (k₃ ∷ []) m) c = rw append-nil w in
+                let s = at-start whole old new c fits (wrote _ _ u (wrote _ _ v last)) in
+                let x : a ≡ length (text k₁ m) = omega (arith, u .next) in
+                let y : b - a ≡ length (text k₂ m) = omega (arith, v .next) in
+                let z : c - b ≡ length (text k₃ m) = omega (arith, w .next) in
+                record { answer = rw (no, z, y, x); bytes = rw no (s .1) }
+
+module _ (m : List ℕ) where
+  pub sn-three-most : length (endToEnd snKinds m) ≤ 12 * length m
+  sn-three-most =
+      omega (arith, three-length (sn Mode.Detailed) (sn Mode.Partial) (sn Mode.Simplified) m, text-most m (sn Mode.Detailed), text-most m (sn Mode.Partial), text-most m (sn Mode.Simplified))
+
+  pub standard-three-most : length (endToEnd standardKinds m) ≤ 5 * length m + 33
+  standard-three-most =
+      omega (arith, three-length (standard Level.Detailed) (standard Level.Partial) (standard Level.Simple) m, text-most m (standard Level.Detailed), text-most m (standard Level.Partial), text-most m (standard Level.Simple))

@@ -1,0 +1,73 @@
+-- `streams::label::label` meets its contract.
+-- Assumes nothing.
+use mathlib.Core.Path.{sym, _∙_}
+use Rattle.streams.proofs.Levels.{label-1, label-6, label-4, label-0}
+use borrow.Author.Needs.{needs}
+use Rattle.streams.proofs.label.label.Statement.{statement}
+use Rattle.streams.proofs.label.label.Tie as tie
+
+refused-requires : tie.Need-refused-requires
+refused-requires c κs = search needs
+
+returns : tie.Need-returns
+returns c = rw (c .refused .ensures) (label-1 _ _ _ (c .before .if1 .taken))
+
+choose-requires : tie.Need-choose-requires
+choose-requires c κs = search needs
+
+enum-known-level : tie.Need-enum-known-level
+enum-known-level c = search needs
+
+enum-told : tie.Need-enum-told
+enum-told c = search needs
+
+refused-requires-2 : tie.Need-refused-requires-2
+refused-requires-2 c κs = search needs
+
+returns-2 : tie.Need-returns-2
+returns-2 c =
+    rw (c .refused2 .ensures)
+    (label-6 _ _ _ (c .before .before .before .before .if1 .left) (sym (c .before .enum-told .given .1) ∙ c .before .before .before .choose .ensures))
+
+standard-due-requires : tie.Need-standard-due-requires
+standard-due-requires c κs = search needs
+
+refused-requires-3 : tie.Need-refused-requires-3
+refused-requires-3 c κs = search needs
+
+returns-3 : tie.Need-returns-3
+returns-3 c =
+    rw (c .refused3 .ensures)
+    (label-4 _ _ _ (c .before .before .before .before .before .before .before .if1 .left) (c .before .before .before .before .level .given .0 .0) (sym (c .before .before .before .before .level .given .1) ∙ c .before .before .before .before .before .before .choose .ensures) _ (c .before .before .standard-due .ensures) (c .before .if2 .taken))
+
+put-standard-requires : tie.Need-put-standard-requires
+put-standard-requires c κs = search needs
+
+level-number-requires : tie.Need-level-number-requires
+level-number-requires c κs = search needs
+
+same-length : tie.Need-same-length
+same-length c = search needs
+
+returns-4 : tie.Need-returns-4
+returns-4 c =
+    label-0 _ _ _ (c .before .before .before .before .before .before .before .before .before .before .before .if1 .left) (c .before .before .before .before .before .before .before .before .level .given .0 .0) (sym (c .before .before .before .before .before .before .before .before .level .given .1) ∙ c .before .before .before .before .before .before .before .before .before .before .choose .ensures) _ (c .before .before .before .before .before .before .standard-due .ensures) (c .before .before .before .before .before .if2 .left) (c .before .before .before .put-standard .ensures) (c .level-number .ensures)
+
+pub label-spec : {M : Type 1} → statement M
+label-spec =
+    tie.close
+    (tie.spec
+    refused-requires
+    returns
+    choose-requires
+    enum-known-level
+    enum-told
+    refused-requires-2
+    returns-2
+    standard-due-requires
+    refused-requires-3
+    returns-3
+    put-standard-requires
+    level-number-requires
+    same-length
+    returns-4)

@@ -1,0 +1,27 @@
+-- What the functions of the pass ask and promise.
+-- Assumes nothing.
+use Prim.Native.Nat.{ℕ, _≤_}
+use mathlib.Core.Path.{_≡_}
+use mathlib.Core.List.{List}
+use lib.ListN.{length, replicate}
+use Rattle.number.specs.Questions.{filled}
+use Rattle.rules.specs.Chart.{classes, tokens, noCounts}
+use Rattle.rules.specs.Texts.{passKinds, endToEnd, lengthsOf}
+use Rattle.measures.specs.Scan.{paired}
+use Rattle.streams.specs.declared.StreamOutputs.{StreamOutputs}
+
+-- a chart of the domain, its tokens in two slices, and a text slice as long as its six texts
+pub record Tokened (m cs ns old : List ℕ) : Type 0 where
+  pub few : length m ≤ 1048576
+  pub long : length cs ≡ length ns
+  pub tokens : paired cs ns ≡ tokens (classes m)
+  pub room : length (endToEnd passKinds m) ≤ length old
+
+-- the six texts end to end, and the length of each
+pub record SixTexts (m old new lengths : List ℕ) : Type 0 where
+  pub each : lengths ≡ lengthsOf passKinds m
+  pub bytes : new ≡ filled old (endToEnd passKinds m)
+
+-- the pass, refused
+abbrev pub refusedPass : ℕ → StreamOutputs
+refusedPass n = record { refused = n; counts = noCounts; tokens = 0; lengths = replicate 6 0 }
