@@ -1,3 +1,5 @@
 pub mod Written
+pub mod Refusals
+pub mod Accepted
 pub mod FirstHalf
 pub mod SecondHalf

@@ -1,2 +1,4 @@
+pub mod Refusals
+pub mod Accepted
 pub mod FirstHalf
 pub mod SecondHalf

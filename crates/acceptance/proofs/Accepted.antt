@@ -1,0 +1,61 @@
+-- Demand 2 holds: what a promise says of an accepted call.
+-- Assumes nothing.
+use Prim.Native.Nat.{ℕ, zero, suc}
+use mathlib.Core.Path.{_≡_, refl, sym, ap, _∙_}
+use mathlib.Core.Bool.{false}
+use mathlib.Core.List.{List, [], _∷_}
+use native.Mathlib.Omega.{arith}
+use lib.ListN.{length, replicate}
+use Rattle.number.specs.Questions.{firstNo, accepted, filled}
+use Rattle.number.specs.declared.Written.{Written}
+use Rattle.rules.specs.Chart.{inDomain, classes, tokens, counts, noCounts}
+use Rattle.rules.specs.Texts.{passKinds, lengthsOf}
+use Rattle.rules.specs.Calls.{share, stepAt, labelChoice}
+use Rattle.measures.specs.Answers.{hasStream}
+use Rattle.segments.specs.Promises.{refusal}
+use Rattle.segments.specs.declared.SegmentsAnswer.{SegmentsAnswer}
+use Rattle.record.specs.Record.{fieldsOf, densities, nameOf, recordNo}
+use Rattle.record.specs.declared.RecordAnswer.{RecordAnswer}
+use Rattle.streams.specs.Promises.{threeNo, passNo, labelText, labelLevel, labelNo}
+use Rattle.streams.specs.declared.ThreeWritten.{ThreeWritten}
+use Rattle.streams.specs.declared.StreamOutputs.{StreamOutputs}
+use Rattle.streams.specs.declared.LabelWritten.{LabelWritten}
+use Rattle.acceptance.specs.Accepted.{Accepted}
+
+-- a call that carries 0 gives the accepted answer
+kept : {A : Type 0} (q : ℕ) (a b : A) → q ≡ 0 → accepted q a b ≡ a
+kept zero a b h = refl
+kept (suc q) a b h = absurd (omega (arith, h))
+
+pub all-accepted : Accepted
+all-accepted =
+    record {
+      oneText = λ q text old new r p h.
+          let z : q ≡ 0 = sym (ap (λ (w : Written). w .refused) (p .answer)) ∙ h in
+          (ap (λ (w : Written). w .length) (p .answer) ∙ kept q (length text) 0 z, p .bytes ∙ kept q (filled old text) old z);
+      breakdowns = λ ks m old new r p h.
+          let q = threeNo ks m old in
+          let z : q ≡ 0 = sym (ap (λ (w : ThreeWritten). w .refused) (p .answer)) ∙ h in
+          (ap (λ (w : ThreeWritten). w .lengths) (p .answer) ∙ kept q _ _ z, p .bytes ∙ kept q _ _ z);
+      outputs = λ m cs cs′ ns ns′ old new r p h.
+          let q = passNo m cs ns old in
+          let z : q ≡ 0 = sym (ap (λ (w : StreamOutputs). w .refused) (p .answer)) ∙ h in
+          (p .answer ∙ rw (kept q (counts (classes m)) noCounts z, kept q (length (tokens (classes m))) 0 z, kept q (lengthsOf passKinds m) (replicate 6 0) z, z), p .inClasses ∙ kept q _ _ z, p .inLengths ∙ kept q _ _ z, p .bytes ∙ kept q _ _ z);
+      label = λ width m old new r p h.
+          let q = labelNo width m old in
+          let z : q ≡ 0 = sym (ap (λ (w : LabelWritten). w .refused) (p .answer)) ∙ h in
+          (p .answer ∙ rw (kept q (labelLevel (labelChoice width m)) 0 z, kept q (length (labelText (labelChoice width m) m)) 0 z, z), p .bytes ∙ kept q _ _ z);
+      segments = λ m old new r p h.
+          let q = refusal m old in
+          let z : q ≡ 0 = sym (ap (λ (w : SegmentsAnswer). w .refused) (p .answer)) ∙ h in
+          (ap (λ (w : SegmentsAnswer). w .count) (p .answer) ∙ kept q _ _ z, p .records ∙ kept q _ _ z);
+      chartRecord = λ bytes old new r p h.
+          let q = recordNo bytes old in
+          let z : q ≡ 0 = sym (ap (λ (w : RecordAnswer). w .refused) (p .answer)) ∙ h in
+          (p .answer ∙ rw (kept q (length (densities (fieldsOf bytes))) 0 z, kept {A = ℕ} q 3 0 z, kept q (length (nameOf (fieldsOf bytes))) 0 z, z), p .placed ∙ kept q _ _ z);
+      view = λ m q v o h. o .left ∙ kept _ m [] (sym (o .number) ∙ h);
+      counts = λ m h. kept (firstNo (inDomain m ∷ [])) (counts (classes m)) noCounts h;
+      share = λ m h. kept (firstNo (inDomain m ∷ hasStream m ∷ [])) (share (classes m)) 0 h;
+      alike = λ a b h. kept (firstNo (inDomain a ∷ inDomain b ∷ [])) _ false h;
+      nthToken = λ k m h. ap (stepAt k) (kept (firstNo (inDomain m ∷ [])) m [] h);
+    }

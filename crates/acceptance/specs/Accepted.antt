@@ -1,0 +1,60 @@
+-- Demand 2. Counts, segments, tokens and texts are "proved equal to document 01's rules": what an accepted call, one that carries 0, answers
+-- and leaves in every lent slice, left-over places too. The rules are those of rules/specs; the paper's charts are computed by them in
+-- rules/proofs/Table.
+-- Assumes nothing.
+use Prim.Native.Nat.{ℕ}
+use mathlib.Core.Path.{_≡_}
+use mathlib.Core.List.{List, [], _∷_, map}
+use lib.ListN.{length}
+use Rattle.number.specs.Questions.{filled, OneText}
+use Rattle.number.specs.declared.Written.{Written}
+use Rattle.rules.specs.Chart.{classes, tokens, class, len, counts}
+use Rattle.rules.specs.Reduced.{Kind, standard}
+use Rattle.rules.specs.Texts.{text, passKinds, endToEnd, lengthsOf}
+use Rattle.rules.specs.Calls.{segments, share, stepAt, afterStep, labelChoice}
+use Rattle.rules.specs.declared.StreamSegment.{StreamSegment}
+use Rattle.rules.specs.declared.StreamBreakdownLevel.the-variants as Level
+use Rattle.measures.specs.Answers.{countsAnswer, shareAnswer, alikeAnswer, sameBytes}
+use Rattle.token_view.specs.Promises.{Opening, nthAnswer}
+use Rattle.segments.specs.Promises.{Segmented}
+use Rattle.segments.specs.declared.SegmentsAnswer.{SegmentsAnswer}
+use Rattle.record.specs.Record.{fieldsOf, densities, nameOf}
+use Rattle.record.specs.Promises.{ReadRecord}
+use Rattle.record.specs.declared.RecordAnswer.{RecordAnswer}
+use Rattle.streams.specs.Promises.{Breakdowns, Outputs, labelText, labelLevel, Label}
+use Rattle.streams.specs.declared.ThreeWritten.{ThreeWritten}
+use Rattle.streams.specs.declared.StreamOutputs.{StreamOutputs}
+use Rattle.streams.specs.declared.LabelWritten.{LabelWritten}
+
+pub record Accepted : Type 0 where
+  -- push_u64, format_run_symbol, generate_breakdown, stream_breakdown: the text that is due
+  pub oneText : (q : ℕ) (text old new : List ℕ) (r : Written) → OneText q text old new r → r .refused ≡ 0
+      → (r .length ≡ length text) × (new ≡ filled old text)
+  -- generate_breakdowns, stream_breakdowns
+  pub breakdowns : (ks : List Kind) (m old new : List ℕ) (r : ThreeWritten) → Breakdowns ks m old new r → r .refused ≡ 0
+      → (r .lengths ≡ lengthsOf ks m) × (new ≡ filled old (endToEnd ks m))
+  -- compute_stream_outputs: counts, number of tokens, lengths; both token slices; the text slice
+  pub outputs : (m cs cs′ ns ns′ old new : List ℕ) (r : StreamOutputs) → Outputs m cs cs′ ns ns′ old new r → r .refused ≡ 0
+      → (r ≡ record { refused = 0; counts = counts (classes m); tokens = length (tokens (classes m)); lengths = lengthsOf passKinds m })
+      × (cs′ ≡ filled cs (map class (tokens (classes m))))
+      × (ns′ ≡ filled ns (map len (tokens (classes m))))
+      × (new ≡ filled old (endToEnd passKinds m))
+  -- label
+  pub label : (width : ℕ) (m old new : List ℕ) (r : LabelWritten) → Label width m old new r → r .refused ≡ 0
+      → (r ≡ record { refused = 0; level = labelLevel (labelChoice width m); length = length (labelText (labelChoice width m) m) })
+      × (new ≡ filled old (labelText (labelChoice width m) m))
+  -- stream_sequences
+  pub segments : (m : List ℕ) (old new : List StreamSegment) (r : SegmentsAnswer) → Segmented m old new r → r .refused ≡ 0
+      → (r .count ≡ length (segments (classes m))) × (new ≡ filled old (segments (classes m)))
+  -- read_chart_record
+  pub chartRecord : (bytes old new : List ℕ) (r : RecordAnswer) → ReadRecord bytes old new r → r .refused ≡ 0
+      → (r ≡ record { refused = 0; measures = length (densities (fieldsOf bytes)); «name_start» = 3; «name_length» = length (nameOf (fieldsOf bytes)) })
+      × (new ≡ filled old (densities (fieldsOf bytes)))
+  -- stream_tokens
+  pub view : (m : List ℕ) (no : ℕ) (v : List ℕ) → Opening m no v → no ≡ 0 → v ≡ m
+  -- calls that lend no slice but the chart's own
+  pub counts : (m : List ℕ) → countsAnswer m .refused ≡ 0 → countsAnswer m .counts ≡ counts (classes m)
+  pub share : (m : List ℕ) → shareAnswer m .refused ≡ 0 → shareAnswer m .share ≡ share (classes m)
+  pub alike : (a b : List ℕ) → alikeAnswer a b .refused ≡ 0
+      → alikeAnswer a b .alike ≡ sameBytes (text (standard Level.Detailed) a) (text (standard Level.Detailed) b)
+  pub nthToken : (k : ℕ) (m : List ℕ) → nthAnswer k m .refused ≡ 0 → nthAnswer k m .token ≡ stepAt k m

@@ -1,0 +1,53 @@
+-- Demand 1. "A call first refuses: too many measures, too short a lent slice, or another item of document 01's list, each by its number and with
+-- every lent slice untouched. It then accepts all the rest." No exported call has a `requires`; each promise says by which number the call
+-- refuses, the first no to the questions that concern it, and by this record a call that does not carry 0 answers only that number and
+-- leaves every lent slice as it was.
+-- Assumes nothing.
+use Prim.Native.Nat.{ℕ}
+use mathlib.Core.Path.{_≡_}
+use mathlib.Core.Logic.{_≢_}
+use mathlib.Core.Bool.{Bool, false}
+use mathlib.Core.List.{List, [], _∷_}
+use lib.ListN.{replicate}
+use Rattle.number.specs.Questions.{firstNo, OneText}
+use Rattle.number.specs.declared.Written.{Written}
+use Rattle.rules.specs.Chart.{inDomain, noCounts}
+use Rattle.rules.specs.Reduced.{Kind}
+use Rattle.rules.specs.declared.StreamSegment.{StreamSegment}
+use Rattle.measures.specs.Answers.{countsAnswer, shareAnswer, alikeAnswer}
+use Rattle.token_view.specs.Promises.{Opening, nthAnswer}
+use Rattle.segments.specs.Promises.{Segmented, noSegment, nthSegment}
+use Rattle.segments.specs.declared.SegmentsAnswer.{SegmentsAnswer}
+use Rattle.record.specs.Promises.{ReadRecord}
+use Rattle.record.specs.declared.RecordAnswer.{RecordAnswer}
+use Rattle.streams.specs.Promises.{Breakdowns, Outputs, Label}
+use Rattle.streams.specs.declared.ThreeWritten.{ThreeWritten}
+use Rattle.streams.specs.declared.StreamOutputs.{StreamOutputs}
+use Rattle.streams.specs.declared.LabelWritten.{LabelWritten}
+
+pub record Refusals : Type 0 where
+  -- push_u64, format_run_symbol, generate_breakdown, stream_breakdown: `q` is the first no
+  pub oneText : (q : ℕ) (text old new : List ℕ) (r : Written) → OneText q text old new r → r .refused ≢ 0
+      → (r ≡ record { refused = q; length = 0 }) × (new ≡ old)
+  -- generate_breakdowns, stream_breakdowns
+  pub breakdowns : (ks : List Kind) (m old new : List ℕ) (r : ThreeWritten) → Breakdowns ks m old new r → r .refused ≢ 0
+      → (r .lengths ≡ replicate 3 0) × (new ≡ old)
+  -- compute_stream_outputs
+  pub outputs : (m cs cs′ ns ns′ old new : List ℕ) (r : StreamOutputs) → Outputs m cs cs′ ns ns′ old new r → r .refused ≢ 0
+      → (r ≡ record { refused = r .refused; counts = noCounts; tokens = 0; lengths = replicate 6 0 }) × (cs′ ≡ cs) × (ns′ ≡ ns) × (new ≡ old)
+  -- label
+  pub label : (width : ℕ) (m old new : List ℕ) (r : LabelWritten) → Label width m old new r → r .refused ≢ 0
+      → (r ≡ record { refused = r .refused; level = 0; length = 0 }) × (new ≡ old)
+  -- stream_sequences
+  pub segments : (m : List ℕ) (old new : List StreamSegment) (r : SegmentsAnswer) → Segmented m old new r → r .refused ≢ 0
+      → (r ≡ record { refused = r .refused; count = 0 }) × (new ≡ old)
+  -- read_chart_record
+  pub chartRecord : (bytes old new : List ℕ) (r : RecordAnswer) → ReadRecord bytes old new r → r .refused ≢ 0
+      → (r ≡ record { refused = r .refused; measures = 0; «name_start» = 0; «name_length» = 0 }) × (new ≡ old)
+  -- stream_tokens: a refused view is empty
+  pub view : (m : List ℕ) (no : ℕ) (v : List ℕ) → Opening m no v → no ≢ 0 → v ≡ []
+  -- calls that lend no slice but the chart's own
+  pub counts : (m : List ℕ) → countsAnswer m .refused ≢ 0 → countsAnswer m .counts ≡ noCounts
+  pub share : (m : List ℕ) → shareAnswer m .refused ≢ 0 → shareAnswer m .share ≡ 0
+  pub alike : (a b : List ℕ) → alikeAnswer a b .refused ≢ 0 → alikeAnswer a b .alike ≡ false
+  pub segmentAt : (k : ℕ) (m : List ℕ) → nthSegment k m .refused ≢ 0 → (nthSegment k m .found ≡ false) × (nthSegment k m .segment ≡ noSegment)
