@@ -15,7 +15,8 @@ use Rattle.number.specs.Questions.{question, OneText}
 use Rattle.number.specs.declared.Written.{Written}
 use Rattle.number.proofs.Place.{at-start}
 use Rattle.rules.specs.Chart.{classNumber}
-use Rattle.rules.specs.Reduced.{Kind, run}
+use Rattle.rules.specs.Reduced.{run}
+use Rattle.rules.specs.declared.Kind.{Kind}
 use Rattle.rules.specs.Texts.{word, text}
 use Rattle.rules.specs.declared.RunDensity.{RunDensity}
 use Rattle.rules.specs.declared.RunDensity.the-variants.{Run32, Run24, Run20, Run16, Break}

@@ -11,7 +11,8 @@ use lib.ListN.{length, length-append, replicate}
 use borrow.Author.Tests.{le-leb, lt-leb, leb-true}
 use Rattle.number.specs.Place.{Room, Wrote}
 use Rattle.number.proofs.Place.{at-start, room-first, room-next, wrote}
-use Rattle.rules.specs.Reduced.{Kind, sn, standard}
+use Rattle.rules.specs.declared.Kind.{Kind}
+use Rattle.rules.specs.declared.Kind.the-variants.{Sn as sn, Standard as standard}
 use Rattle.rules.specs.Texts.{text, snKinds, standardKinds, endToEnd}
 use Rattle.rules.specs.declared.BreakdownMode.the-variants as Mode
 use Rattle.rules.specs.declared.StreamBreakdownLevel.the-variants as Level

@@ -11,7 +11,7 @@ use Rattle.number.specs.Place.{Wrote}
 use Rattle.number.specs.Questions.{firstNo, accepted, filled, roomFor}
 use Rattle.number.proofs.Place.{at-start}
 use Rattle.rules.specs.Chart.{inDomain}
-use Rattle.rules.specs.Reduced.{standard}
+use Rattle.rules.specs.declared.Kind.the-variants.{Standard as standard}
 use Rattle.rules.specs.Texts.{text}
 use Rattle.rules.specs.Calls.{levels, levelNumber, firstWithin, labelChoice}
 use Rattle.rules.specs.declared.StreamBreakdownLevel.{StreamBreakdownLevel}

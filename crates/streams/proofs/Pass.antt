@@ -12,7 +12,8 @@ use borrow.Author.Tests.{le-leb, lt-leb, not-true, not-false}
 use Rattle.number.specs.Place.{Room, Wrote}
 use Rattle.number.proofs.Place.{still, room-first, room-next, wrote, at-start}
 use Rattle.rules.specs.Chart.{classes, Token, token, activePart, tokens, counts}
-use Rattle.rules.specs.Reduced.{Kind, sn, standard}
+use Rattle.rules.specs.declared.Kind.{Kind}
+use Rattle.rules.specs.declared.Kind.the-variants.{Sn as sn, Standard as standard}
 use Rattle.rules.specs.Texts.{text, passKinds, endToEnd, lengthsOf}
 use Rattle.rules.specs.declared.BreakdownMode.{BreakdownMode}
 use Rattle.rules.specs.declared.BreakdownMode.the-variants as Mode

@@ -11,7 +11,7 @@ use types.Run.{OneOf}
 use denote.Enum.Declared.{tagOf}
 use Rattle.number.specs.Place.{Room}
 use Rattle.rules.specs.Chart.{classes, activePart, tokens}
-use Rattle.rules.specs.Reduced.{sn, standard}
+use Rattle.rules.specs.declared.Kind.the-variants.{Sn as sn, Standard as standard}
 use Rattle.rules.specs.Texts.{text}
 use Rattle.rules.specs.declared.BreakdownMode.{BreakdownMode}
 use Rattle.rules.specs.declared.StreamBreakdownLevel.{StreamBreakdownLevel}

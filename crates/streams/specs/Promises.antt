@@ -9,7 +9,8 @@ use lib.ListN.{length, replicate}
 use Rattle.number.specs.Questions.{Question, question, firstNo, accepted, filled, roomFor, OneText}
 use Rattle.number.specs.declared.Written.{Written}
 use Rattle.rules.specs.Chart.{inDomain, classes, classNumber, class, len, tokens, counts, noCounts}
-use Rattle.rules.specs.Reduced.{Kind, standard}
+use Rattle.rules.specs.declared.Kind.{Kind}
+use Rattle.rules.specs.declared.Kind.the-variants.{Standard as standard}
 use Rattle.rules.specs.Texts.{text, passKinds, endToEnd, lengthsOf}
 use Rattle.rules.specs.Calls.{runSymbol, levelNumber, labelChoice}
 use Rattle.rules.specs.declared.RunDensity.{RunDensity}

@@ -9,7 +9,7 @@ use rules::StreamBreakdownLevel;
 ghost use mathlib.Core.Path.{_≡_};
 ghost use lib.Dec.{leb};
 ghost use lib.ListN.{length};
-ghost use Rattle.rules.specs.Reduced.{sn, standard};
+ghost use Rattle.rules.specs.declared.Kind.the-variants.{Sn as sn, Standard as standard};
 ghost use Rattle.rules.specs.Texts.{text};
 ghost use Rattle.measures.specs.Domain.{Domain};
 ghost use Rattle.streams.specs.Promises.{Breakdown};

@@ -16,7 +16,7 @@ ghost use mathlib.Core.Path.{_≡_};
 ghost use lib.ListN.{length};
 ghost use Rattle.number.specs.Place.{Room, Wrote};
 ghost use Rattle.rules.specs.Chart.{classes, streams};
-ghost use Rattle.rules.specs.Reduced.{sn, standard};
+ghost use Rattle.rules.specs.declared.Kind.the-variants.{Sn as sn, Standard as standard};
 ghost use Rattle.rules.specs.Texts.{text};
 ghost use Rattle.measures.specs.Domain.{Domain};
 

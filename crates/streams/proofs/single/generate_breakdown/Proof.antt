@@ -2,7 +2,7 @@
 -- Assumes nothing.
 use mathlib.Core.Path.{sym, _∙_}
 use borrow.Author.Tests.{not-true, not-false}
-use Rattle.rules.specs.Reduced.{sn}
+use Rattle.rules.specs.declared.Kind.the-variants.{Sn as sn}
 use Rattle.streams.proofs.Answers.{breakdown-1, breakdown-4, breakdown-room, breakdown-0}
 use borrow.Author.Needs.{needs}
 use Rattle.streams.proofs.single.generate_breakdown.Statement.{statement}

@@ -4,7 +4,7 @@ use mathlib.Core.Path.{sym}
 use native.Mathlib.Nat.{le-trans}
 use native.Mathlib.Omega.{arith}
 use borrow.Author.Tests.{le-leb}
-use Rattle.rules.specs.Reduced.{sn}
+use Rattle.rules.specs.declared.Kind.the-variants.{Sn as sn}
 use Rattle.rules.specs.declared.BreakdownMode.the-variants as Mode
 use Rattle.rules.proofs.Bound.{text-most}
 use Rattle.streams.proofs.EndToEnd.{three-length, sn-three-most}
