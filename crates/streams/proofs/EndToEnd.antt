@@ -12,12 +12,9 @@ use borrow.Author.Tests.{le-leb, lt-leb, leb-true}
 use Rattle.number.specs.Place.{Room, Wrote}
 use Rattle.number.proofs.Place.{at-start, room-first, room-next, wrote}
 use Rattle.rules.specs.declared.Kind.{Kind}
-use Rattle.rules.specs.declared.Kind.the-variants.{Sn as sn, Standard as standard}
-use Rattle.rules.specs.Texts.{text, snKinds, standardKinds, endToEnd}
-use Rattle.rules.specs.declared.BreakdownMode.the-variants as Mode
-use Rattle.rules.specs.declared.StreamBreakdownLevel.the-variants as Level
-use Rattle.rules.proofs.Bound.{text-most}
+use Rattle.rules.specs.Texts.{text, endToEnd}
 use Rattle.measures.specs.Domain.{Domain}
+use Rattle.streams.proofs.Texts.{text-short}
 use Rattle.streams.specs.Promises.{threeNo, Breakdowns}
 use Rattle.streams.specs.declared.ThreeWritten.{ThreeWritten}
 
@@ -28,8 +25,11 @@ module _ (k₁ k₂ k₃ : Kind) (m : List ℕ) where
   abbrev whole : List ℕ
   whole = endToEnd ks m
 
-  pub three-length : length whole ≡ length (text k₁ m) + (length (text k₂ m) + length (text k₃ m))
-  three-length = simp (append-nil, length-append)
+  pub three-length : length whole ≡ length (text k₁ m) + length (text k₂ m) + length (text k₃ m)
+  three-length = simp (append-nil, length-append) (omega arith)
+
+  pub three-short : length whole ≤ 12 * length m + 33
+  three-short = omega (arith, three-length, text-short m k₁, text-short m k₂, text-short m k₃)
 
   module _ (old : List ℕ) where
     abbrev refusal : ℕ → ThreeWritten
@@ -78,12 +78,3 @@ module _ (k₁ k₂ k₃ : Kind) (m : List ℕ) where
                 let y : b - a ≡ length (text k₂ m) = omega (arith, v .next) in
                 let z : c - b ≡ length (text k₃ m) = omega (arith, w .next) in
                 record { answer = rw (no, z, y, x); bytes = rw no (s .1) }
-
-module _ (m : List ℕ) where
-  pub sn-three-most : length (endToEnd snKinds m) ≤ 12 * length m
-  sn-three-most =
-      omega (arith, three-length (sn Mode.Detailed) (sn Mode.Partial) (sn Mode.Simplified) m, text-most m (sn Mode.Detailed), text-most m (sn Mode.Partial), text-most m (sn Mode.Simplified))
-
-  pub standard-three-most : length (endToEnd standardKinds m) ≤ 5 * length m + 33
-  standard-three-most =
-      omega (arith, three-length (standard Level.Detailed) (standard Level.Partial) (standard Level.Simple) m, text-most m (standard Level.Detailed), text-most m (standard Level.Partial), text-most m (standard Level.Simple))

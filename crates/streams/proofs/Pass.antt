@@ -2,13 +2,13 @@
 -- Assumes nothing.
 use Prim.Native.Nat.{ℕ, suc, _+_, _*_, _-_, _≤_, _<_}
 use mathlib.Core.Path.{_≡_, refl, sym, ap, _∙_}
-use mathlib.Core.Bool.{Bool, true, false, not}
+use mathlib.Core.Bool.{true, false}
 use mathlib.Core.List.{List, [], _∷_, _++_}
 use native.Mathlib.Omega.{arith}
 use lib.Dec.{leb}
 use lib.ListN.{length, take, length-append}
 use lib.Seq.{length-take-le}
-use borrow.Author.Tests.{le-leb, lt-leb, not-true, not-false}
+use borrow.Author.Tests.{le-leb, lt-leb}
 use Rattle.number.specs.Place.{Room, Wrote}
 use Rattle.number.proofs.Place.{still, room-first, room-next, wrote, at-start}
 use Rattle.rules.specs.Chart.{classes, Token, token, activePart, tokens, counts}
@@ -27,7 +27,7 @@ use Rattle.measures.proofs.Written.{withinC, withinN, back}
 use Rattle.breakdown.specs.Source.{Source}
 use Rattle.breakdown.specs.Sn.{limitOf, snText}
 use Rattle.breakdown.specs.Standard.{standardText}
-use Rattle.breakdown.proofs.Modes.{from-measures, source-measures, source-tokens, sn-text, detailed-text, partial-text, simple-text}
+use Rattle.breakdown.proofs.Modes.{from-measures, source-tokens, sn-text, detailed-text, partial-text, simple-text}
 use Rattle.streams.specs.Promises.{passNo, Outputs}
 use Rattle.streams.specs.Pass.{Tokened, SixTexts, refusedPass}
 
@@ -40,9 +40,6 @@ roomy m =
     (omega (arith, text-most m (sn Mode.Detailed), text-most m (sn Mode.Partial), text-most m (sn Mode.Simplified), text-most m (standard Level.Detailed), text-most m (standard Level.Partial), text-most m (standard Level.Simple)))
 
 module _ (m part : List ℕ) (e : part ≡ activePart m) where
-  pub measured : length m ≤ 1048576 → Source part [] []
-  measured h = rw e (source-measures m h)
-
   -- the lengths of the six texts, from the measures of the active part
   pub all-six : length (snText 0 part [] [] 0) + length (snText 1 part [] [] 0) + length (snText 4 part [] [] 0) + length (standardText false 0 part [] []) + length (standardText true 0 part [] []) + length (standardText true 1 part [] []) ≡ length (endToEnd passKinds m)
   all-six =
@@ -111,13 +108,6 @@ module _ {m cs ns old : List ℕ} (t : Tokened m cs ns old) where
       record { each = rw h at (chain-lengths m c); bytes = at-start (endToEnd passKinds m) old new (w .0) (t .room) (w .1) .1 }
 
 -- ---- the pass
-
--- a question that a function answered
-pub said-no : {r b : Bool} → r ≡ b → not r ≡ true → b ≡ false
-said-no {r = r} e h = sym e ∙ not-true r h
-
-pub said-yes : {r b : Bool} → r ≡ b → not r ≡ false → b ≡ true
-said-yes {r = r} e h = sym e ∙ not-false r h
 
 module _ (m cs ns old : List ℕ) where
   refused : (j : ℕ) → passNo m cs ns old ≡ suc j → Outputs m cs cs ns ns old old (refusedPass (suc j))
