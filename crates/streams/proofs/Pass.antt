@@ -9,8 +9,7 @@ use lib.Dec.{leb}
 use lib.ListN.{length, take, length-append}
 use lib.Seq.{length-take-le}
 use borrow.Author.Tests.{le-leb, lt-leb}
-use Rattle.number.specs.Place.{Room, Wrote}
-use Rattle.number.proofs.Place.{still, room-first, room-next, wrote, at-start}
+use Rattle.number.specs.Place.{Room}
 use Rattle.rules.specs.Chart.{classes, Token, token, activePart, tokens, counts}
 use Rattle.rules.specs.declared.Kind.{Kind}
 use Rattle.rules.specs.declared.Kind.the-variants.{Sn as sn, Standard as standard}
@@ -28,6 +27,7 @@ use Rattle.breakdown.specs.Source.{Source}
 use Rattle.breakdown.specs.Sn.{limitOf, snText}
 use Rattle.breakdown.specs.Standard.{standardText}
 use Rattle.breakdown.proofs.Modes.{from-measures, source-tokens, sn-text, detailed-text, partial-text, simple-text}
+use Rattle.streams.proofs.EndToEnd.{Chain, from-start}
 use Rattle.streams.specs.Promises.{passNo, Outputs}
 use Rattle.streams.specs.Pass.{Tokened, SixTexts, refusedPass}
 
@@ -49,32 +49,6 @@ module _ (m part : List ℕ) (e : part ≡ activePart m) where
       (simp length-append (omega arith))
 
 -- ---- written
-
--- room for some texts end to end from `at` on: for the first, and, once that is written, for the others
-module _ (rest : List ℕ) {xs first out : List ℕ} {at : ℕ} (e : xs ≡ first) where
-  pub room-one : Room out at (first ++ rest) → Room out at xs
-  room-one h = rw e (room-first first rest h)
-
-  pub room-others : {mid : List ℕ} {r : ℕ} → Wrote out mid at xs r → Room out at (first ++ rest) → Room mid r rest
-  room-others w h = room-next first rest (rw e at w) h
-
-module _ (m : List ℕ) where
-  -- the texts of some kinds, written one after the other from `at` on, and the length of each
-  pub data Chain : List Kind → List ℕ → ℕ → List ℕ → List ℕ → Type 0 where
-    ended : {out : List ℕ} {at : ℕ} → Chain [] out at out []
-    wrote-one : {k : Kind} {ks : List Kind} {xs out mid new ls : List ℕ} {at r : ℕ} → xs ≡ text k m → Wrote out mid at xs r → Chain ks mid r new ls → Chain (k ∷ ks) out at new ((r - at) ∷ ls)
-
-  chain-lengths : {ks : List Kind} {out new ls : List ℕ} {at : ℕ} → Chain ks out at new ls → ls ≡ lengthsOf ks m
-  chain-lengths ended = refl
-  chain-lengths (wrote-one {k = k} {at = at} {r = r} e w c) =
-      let h : r - at ≡ length (text k m) = omega (arith, w .next, ap {B = ℕ} length e) in
-      rw (h, chain-lengths c)
-
-  chain-wrote : {ks : List Kind} {out new ls : List ℕ} {at : ℕ} → Chain ks out at new ls → (r : ℕ) × Wrote out new at (endToEnd ks m) r
-  chain-wrote ended = (_, still)
-  chain-wrote (wrote-one {k = k} {ks = ks} e w c) =
-      let t = chain-wrote c in
-      (t .0, wrote (text k m) (endToEnd ks m) (rw e at w) (t .1))
 
 paired-length : (cs ns : List ℕ) → length cs ≡ length ns → length (paired cs ns) ≡ length cs
 paired-length [] ns e = refl
@@ -102,10 +76,7 @@ module _ {m cs ns old : List ℕ} (t : Tokened m cs ns old) where
   room = record { fits = omega (arith, t .room) }
 
   pub six : {new ls : List ℕ} {a : ℕ} → Chain m passKinds old 0 new ((a - 0) ∷ ls) → SixTexts m old new (a ∷ ls)
-  six {new = new} {a = a} c =
-      let w = chain-wrote m c in
-      let h : a - 0 ≡ a = omega arith in
-      record { each = rw h at (chain-lengths m c); bytes = at-start (endToEnd passKinds m) old new (w .0) (t .room) (w .1) .1 }
+  six c = let s = from-start m (t .room) c in record { each = s .0; bytes = s .1 }
 
 -- ---- the pass
 

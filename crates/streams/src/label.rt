@@ -4,6 +4,7 @@ use crate::kind::level_at;
 use crate::kind::level_number;
 use crate::text::put_text;
 use crate::text::text_due;
+use crate::text::text_fits;
 use rules::Kind;
 use rules::LabelChoice;
 ghost use mathlib.Core.Path.{_≡_};
@@ -49,10 +50,11 @@ pub fn label(m: &[u32], width: usize, out: &mut [u8]) -> LabelWritten
     let LabelChoice::Fits(level) = choose(m, width) else {
         return refused(6);
     };
-    if out.len() < text_due(m, Kind::Standard(level)) {
+    let kind = Kind::Standard(level);
+    if !text_fits(m, kind, out.len()) {
         return refused(4);
     }
-    let length = put_text(m, Kind::Standard(level), out, 0);
+    let length = put_text(m, kind, out, 0);
     LabelWritten {
         refused: 0,
         level: level_number(level),

@@ -1,29 +1,13 @@
 // Single calls: one text, by mode or by level.
 use crate::text::put_text;
-use crate::text::text_due;
+use crate::text::text_fits;
 use number::Written;
 use rules::BreakdownMode;
 use rules::Kind;
 use rules::StreamBreakdownLevel;
-ghost use mathlib.Core.Path.{_≡_};
-ghost use lib.Dec.{leb};
-ghost use lib.ListN.{length};
-ghost use Rattle.rules.specs.Texts.{text};
-ghost use Rattle.measures.specs.Domain.{Domain};
 ghost use Rattle.streams.specs.Promises.{Breakdown};
 
-// Question 4. The text is measured only where the slice could be too short for it.
-fn text_fits(m: &[u32], kind: Kind, room: usize) -> bool
-    requires { ⌜ Domain (now m) ⌝ }
-    ensures { λ r. ⌜ r ≡ leb (length (text kind (now (m .entry)))) room ⌝ }
-{
-    if 4 * m.len() + 11 <= room {
-        return true;
-    }
-    text_due(m, kind) <= room
-}
-
-// Questions 1, 4.
+// The text of a kind. Questions 1, 4.
 fn write_text(m: &[u32], kind: Kind, out: &mut [u8]) -> Written
     ensures { λ r. ⌜ Breakdown kind (now (m .entry)) (now (out .entry)) (now (out .exit)) r ⌝ }
 {

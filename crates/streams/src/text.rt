@@ -48,6 +48,17 @@ pub fn text_due(m: &[u32], kind: Kind) -> usize
     }
 }
 
+// Question 4. The text is measured only where the slice could be too short for it.
+pub fn text_fits(m: &[u32], kind: Kind, room: usize) -> bool
+    requires { ⌜ Domain (now m) ⌝ }
+    ensures { λ r. ⌜ r ≡ leb (length (text kind (now (m .entry)))) room ⌝ }
+{
+    if 4 * m.len() + 11 <= room {
+        return true;
+    }
+    text_due(m, kind) <= room
+}
+
 // The text at the place `at`; the next place is answered.
 pub fn put_text(m: &[u32], kind: Kind, out: &mut [u8], at: usize) -> usize
     requires { ⌜ Domain (now m) × Room (now out) at (text kind (now m)) ⌝ }

@@ -6,22 +6,22 @@ use Rattle.streams.proofs.single.write_text.Statement.{statement}
 use Rattle.streams.proofs.single.write_text.Tie as tie
 
 returns : tie.Need-returns
-returns c = breakdown-1 (c .before .before .before .args .kind) _ _ (c .if1 .taken)
+returns c = breakdown-1 _ _ _ (c .if1 .taken)
 
 text-fits-requires : tie.Need-text-fits-requires
 text-fits-requires c κs = search needs
 
 returns-2 : tie.Need-returns-2
-returns-2 c = breakdown-4 (c .before .before .before .before .before .args .kind) _ _ (c .before .before .if1 .left) (said-no (c .before .text-fits .ensures) (c .if2 .taken))
+returns-2 c = breakdown-4 _ _ _ (c .before .before .if1 .left) (said-no (c .before .text-fits .ensures) (c .if2 .taken))
 
 put-text-requires : tie.Need-put-text-requires
-put-text-requires c κs = breakdown-room (c .before .before .before .before .before .before .args .kind) _ _ (c .before .before .before .if1 .left) (said-yes (c .before .before .text-fits .ensures) (c .before .if2 .left))
+put-text-requires c κs = breakdown-room _ _ _ (c .before .before .before .if1 .left) (said-yes (c .before .before .text-fits .ensures) (c .before .if2 .left))
 
 same-length : tie.Need-same-length
 same-length c = search needs
 
 returns-3 : tie.Need-returns-3
-returns-3 c = breakdown-0 (c .before .before .before .before .before .before .before .before .before .args .kind) _ _ (c .before .before .before .before .before .before .if1 .left) (said-yes (c .before .before .before .before .before .text-fits .ensures) (c .before .before .before .before .if2 .left)) (c .before .before .put-text .ensures)
+returns-3 c = breakdown-0 _ _ _ (c .before .before .before .before .before .before .if1 .left) (said-yes (c .before .before .before .before .before .text-fits .ensures) (c .before .before .before .before .if2 .left)) (c .before .before .put-text .ensures)
 
 pub write-text-spec : {M : Type 1} → statement M
 write-text-spec =

@@ -1,6 +1,6 @@
 -- `streams::text::put_text` meets its contract.
 -- Assumes nothing.
-use mathlib.Core.Path.{_≡_, ap, _∙_}
+use mathlib.Core.Path.{ap, _∙_}
 use Rattle.rules.specs.declared.Kind.the-variants.{Sn as sn, Standard as standard}
 use Rattle.rules.specs.declared.StreamBreakdownLevel.the-variants as Level
 use Rattle.streams.proofs.Texts.{ready, put}

@@ -22,13 +22,13 @@ returns-2 : tie.Need-returns-2
 returns-2 c = rw (c .refused2 .ensures) (three-4 _ _ _ _ _ (c .before .before .before .if1 .left) (said-no (c .before .before .texts-fit .ensures) (c .before .if2 .taken)))
 
 put-text-requires : tie.Need-put-text-requires
-put-text-requires c κs = room-1 (c .before .before .before .before .before .before .args .a) (c .before .before .before .before .before .before .args .b) (c .before .before .before .before .before .before .args .c) _ _ (c .before .before .before .if1 .left) (said-yes (c .before .before .texts-fit .ensures) (c .before .if2 .left))
+put-text-requires c κs = room-1 _ _ _ _ _ (c .before .before .before .if1 .left) (said-yes (c .before .before .texts-fit .ensures) (c .before .if2 .left))
 
 put-text-requires-2 : tie.Need-put-text-requires-2
-put-text-requires-2 c κs = room-2 (c .before .before .before .before .before .before .before .before .before .before .args .a) (c .before .before .before .before .before .before .before .before .before .before .args .b) (c .before .before .before .before .before .before .before .before .before .before .args .c) _ _ (c .before .before .before .before .before .before .before .if1 .left) (said-yes (c .before .before .before .before .before .before .texts-fit .ensures) (c .before .before .before .before .before .if2 .left)) (c .before .before .before .put-text .ensures)
+put-text-requires-2 c κs = room-2 _ _ _ _ _ (c .before .before .before .before .before .before .before .if1 .left) (said-yes (c .before .before .before .before .before .before .texts-fit .ensures) (c .before .before .before .before .before .if2 .left)) (c .before .before .before .put-text .ensures)
 
 put-text-requires-3 : tie.Need-put-text-requires-3
-put-text-requires-3 c κs = room-3 (c .before .before .before .before .before .before .before .before .before .before .before .before .before .before .args .a) (c .before .before .before .before .before .before .before .before .before .before .before .before .before .before .args .b) (c .before .before .before .before .before .before .before .before .before .before .before .before .before .before .args .c) _ _ (c .before .before .before .before .before .before .before .before .before .before .before .if1 .left) (said-yes (c .before .before .before .before .before .before .before .before .before .before .texts-fit .ensures) (c .before .before .before .before .before .before .before .before .before .if2 .left)) (c .before .before .before .before .before .before .before .put-text .ensures) (c .before .before .before .put-text2 .ensures)
+put-text-requires-3 c κs = room-3 _ _ _ _ _ (c .before .before .before .before .before .before .before .before .before .before .before .if1 .left) (said-yes (c .before .before .before .before .before .before .before .before .before .before .texts-fit .ensures) (c .before .before .before .before .before .before .before .before .before .if2 .left)) (c .before .before .before .before .before .before .before .put-text .ensures) (c .before .before .before .put-text2 .ensures)
 
 sub-t9 : tie.Need-sub-t9
 sub-t9 c = search needs

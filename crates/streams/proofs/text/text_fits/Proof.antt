@@ -1,12 +1,12 @@
--- `streams::single::text_fits` meets its contract.
+-- `streams::text::text_fits` meets its contract.
 -- Assumes nothing.
 use mathlib.Core.Path.{sym}
 use native.Mathlib.Nat.{le-trans}
 use borrow.Author.Tests.{le-leb}
 use Rattle.streams.proofs.Texts.{text-short}
 use borrow.Author.Needs.{needs}
-use Rattle.streams.proofs.single.text_fits.Statement.{statement}
-use Rattle.streams.proofs.single.text_fits.Tie as tie
+use Rattle.streams.proofs.text.text_fits.Statement.{statement}
+use Rattle.streams.proofs.text.text_fits.Tie as tie
 
 mul-if1 : tie.Need-mul-if1
 mul-if1 c = search needs
