@@ -3,17 +3,16 @@
 use Prim.Native.Nat.{ℕ, suc, _+_, _*_, _-_, _≤_, _<_}
 use mathlib.Core.Path.{_≡_, refl, sym, ap, _∙_}
 use mathlib.Core.Bool.{true, false}
-use mathlib.Core.List.{List, [], _∷_, _++_}
+use mathlib.Core.List.{List, [], _∷_}
 use native.Mathlib.Omega.{arith}
 use lib.Dec.{leb}
 use lib.ListN.{length, take, length-append}
 use lib.Seq.{length-take-le}
 use borrow.Author.Tests.{le-leb, lt-leb}
 use Rattle.number.specs.Place.{Room}
-use Rattle.rules.specs.Chart.{classes, Token, token, activePart, tokens, counts}
-use Rattle.rules.specs.declared.Kind.{Kind}
+use Rattle.rules.specs.Chart.{classes, activePart, tokens, counts}
 use Rattle.rules.specs.declared.Kind.the-variants.{Sn as sn, Standard as standard}
-use Rattle.rules.specs.Texts.{text, passKinds, endToEnd, lengthsOf}
+use Rattle.rules.specs.Texts.{text, passKinds, endToEnd}
 use Rattle.rules.specs.declared.BreakdownMode.{BreakdownMode}
 use Rattle.rules.specs.declared.BreakdownMode.the-variants as Mode
 use Rattle.rules.specs.declared.StreamBreakdownLevel.the-variants as Level

@@ -8,7 +8,7 @@ use Rattle.number.specs.declared.Written.{Written}
 use Rattle.rules.specs.Chart.{inDomain, classes}
 use Rattle.rules.specs.declared.Kind.{Kind}
 use Rattle.rules.specs.declared.Kind.the-variants.{Standard as standard}
-use Rattle.rules.specs.Texts.{text, passKinds}
+use Rattle.rules.specs.Texts.{passKinds}
 use Rattle.rules.specs.Calls.{levels, firstWithin, labelChoice}
 use Rattle.rules.specs.declared.StreamBreakdownLevel.{StreamBreakdownLevel}
 use Rattle.rules.specs.declared.LabelChoice.{LabelChoice}

@@ -43,7 +43,7 @@ module _ (m part : List ℕ) where
     source d = rw e (source-measures m (d .few))
 
     -- in the arm for the kind k
-    module _ (k : Kind) {kind : Kind} (f : kind ≡ k) where
+    module _ {kind k : Kind} (f : kind ≡ k) where
       pub due : {r : ℕ} → r ≡ length (made k) → r ≡ length (text kind m)
       due h = rw (f, ← made-text k) h
 

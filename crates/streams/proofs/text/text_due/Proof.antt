@@ -1,8 +1,7 @@
 -- `streams::text::text_due` meets its contract.
 -- Assumes nothing.
 use mathlib.Core.Path.{ap, _∙_}
-use Rattle.rules.specs.declared.Kind.the-variants.{Sn as sn, Standard as standard}
-use Rattle.rules.specs.declared.StreamBreakdownLevel.the-variants as Level
+use Rattle.rules.specs.declared.Kind.the-variants.{Standard as standard}
 use Rattle.streams.proofs.Texts.{source, due}
 use borrow.Author.Needs.{needs}
 use Rattle.streams.proofs.text.text_due.Statement.{statement}
@@ -66,19 +65,19 @@ total-length-requires : tie.Need-total-length-requires
 total-length-requires c κs = search needs
 
 returns : tie.Need-returns
-returns c = due _ _ (c .before .before .before .before .before .before .before .active-range .ensures) (sn (c .before .before .before .before .kind .given .0 .0)) (c .before .before .before .before .kind .given .1) (rw (c .before .sn-limit .ensures) at (c .sn-length .ensures))
+returns c = due _ _ (c .before .before .before .before .before .before .before .active-range .ensures) (c .before .before .before .before .kind .given .1) (rw (c .before .sn-limit .ensures) at (c .sn-length .ensures))
 
 returns-2 : tie.Need-returns-2
-returns-2 c = due _ _ (c .before .before .before .before .before .before .before .before .active-range .ensures) (standard Level.Detailed) (c .before .before .before .before .before .kind2 .given .1 ∙ ap standard (c .before .before .enum-told .given .1)) (c .standard-length .ensures)
+returns-2 c = due _ _ (c .before .before .before .before .before .before .before .before .active-range .ensures) (c .before .before .before .before .before .kind2 .given .1 ∙ ap standard (c .before .before .enum-told .given .1)) (c .standard-length .ensures)
 
 returns-3 : tie.Need-returns-3
-returns-3 c = due _ _ (c .before .before .before .before .before .before .before .before .active-range .ensures) (standard Level.Partial) (c .before .before .before .before .before .kind2 .given .1 ∙ ap standard (c .before .before .enum-told2 .given .1)) (c .standard-length2 .ensures)
+returns-3 c = due _ _ (c .before .before .before .before .before .before .before .before .active-range .ensures) (c .before .before .before .before .before .kind2 .given .1 ∙ ap standard (c .before .before .enum-told2 .given .1)) (c .standard-length2 .ensures)
 
 returns-4 : tie.Need-returns-4
-returns-4 c = due _ _ (c .before .before .before .before .before .before .before .before .active-range .ensures) (standard Level.Simple) (c .before .before .before .before .before .kind2 .given .1 ∙ ap standard (c .before .before .enum-told3 .given .1)) (c .standard-length3 .ensures)
+returns-4 c = due _ _ (c .before .before .before .before .before .before .before .before .active-range .ensures) (c .before .before .before .before .before .kind2 .given .1 ∙ ap standard (c .before .before .enum-told3 .given .1)) (c .standard-length3 .ensures)
 
 returns-5 : tie.Need-returns-5
-returns-5 c = due _ _ (c .before .before .before .before .before .before .before .before .active-range .ensures) (standard Level.Total) (c .before .before .before .before .before .kind2 .given .1 ∙ ap standard (c .before .before .enum-told4 .given .1)) (rw (c .before .stream-count .ensures) at (c .total-length .ensures))
+returns-5 c = due _ _ (c .before .before .before .before .before .before .before .before .active-range .ensures) (c .before .before .before .before .before .kind2 .given .1 ∙ ap standard (c .before .before .enum-told4 .given .1)) (rw (c .before .stream-count .ensures) at (c .total-length .ensures))
 
 pub text-due-spec : {M : Type 1} → statement M
 text-due-spec =

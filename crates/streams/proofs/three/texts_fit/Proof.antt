@@ -17,7 +17,7 @@ add-if1 : tie.Need-add-if1
 add-if1 c = search needs
 
 returns : tie.Need-returns
-returns c = sym (le-leb _ _ (le-trans (three-short (c .before .before .args .a) (c .before .before .args .b) (c .before .before .args .c) (c .before .before .args .m .now)) (c .if1 .taken)))
+returns c = sym (le-leb _ _ (le-trans (three-short _ _ _ _) (c .if1 .taken)))
 
 text-due-requires : tie.Need-text-due-requires
 text-due-requires c κs = search needs
@@ -35,7 +35,7 @@ add-result-2 : tie.Need-add-result-2
 add-result-2 c = omega (arith, text-short (c .before .before .before .before .before .args .m .now) (c .before .before .before .before .before .args .a), text-short (c .before .before .before .before .before .args .m .now) (c .before .before .before .before .before .args .b), text-short (c .before .before .before .before .before .args .m .now) (c .before .before .before .before .before .args .c))
 
 returns-2 : tie.Need-returns-2
-returns-2 c = rw (three-length (c .before .before .before .before .before .args .a) (c .before .before .before .before .before .args .b) (c .before .before .before .before .before .args .c), c .before .before .text-due .ensures, c .before .text-due2 .ensures, c .text-due3 .ensures)
+returns-2 c = rw (three-length _ _ _ _, c .before .before .text-due .ensures, c .before .text-due2 .ensures, c .text-due3 .ensures)
 
 pub texts-fit-spec : {M : Type 1} → statement M
 texts-fit-spec =
