@@ -11,7 +11,9 @@ use lib.Seq.{take-append-seam}
 use Rattle.number.specs.Questions.{firstNo, accepted, filled}
 use Rattle.number.specs.declared.Written.{Written}
 use Rattle.rules.specs.Chart.{classes, counts}
-use Rattle.rules.specs.Reduced.{Kind, standard, reduced}
+use Rattle.rules.specs.Reduced.{reduced}
+use Rattle.rules.specs.declared.Kind.{Kind}
+use Rattle.rules.specs.declared.Kind.the-variants.{Standard as standard}
 use Rattle.rules.specs.Texts.{text, endToEnd, lengthsOf, passKinds}
 use Rattle.rules.specs.Calls.{levelNumber, labelChoice}
 use Rattle.rules.specs.Demand.{SameStreams}

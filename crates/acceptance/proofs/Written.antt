@@ -10,7 +10,8 @@ use lib.Seq.{take-append-seam, drop-append-seam}
 use Rattle.number.specs.Questions.{accepted, filled, OneText}
 use Rattle.number.specs.declared.Written.{Written}
 use Rattle.number.proofs.Each.{none, _&_}
-use Rattle.rules.specs.Reduced.{Kind, standard}
+use Rattle.rules.specs.declared.Kind.{Kind}
+use Rattle.rules.specs.declared.Kind.the-variants.{Standard as standard}
 use Rattle.rules.specs.Texts.{text, endToEnd, lengthsOf}
 use Rattle.rules.specs.declared.StreamBreakdownLevel.{StreamBreakdownLevel}
 use Rattle.rules.specs.declared.StreamBreakdownLevel.the-variants as Level

@@ -7,7 +7,7 @@ use mathlib.Core.Path.{_≡_}
 use mathlib.Core.List.{List}
 use Rattle.number.specs.declared.Written.{Written}
 use Rattle.rules.specs.Demand.{SameClasses}
-use Rattle.rules.specs.Reduced.{Kind}
+use Rattle.rules.specs.declared.Kind.{Kind}
 use Rattle.rules.specs.declared.StreamSegment.{StreamSegment}
 use Rattle.rules.specs.declared.ViewToken.{ViewToken}
 use Rattle.measures.specs.Answers.{countsAnswer, shareAnswer, alikeAnswer}

@@ -10,7 +10,9 @@ use lib.Dec.{eqb}
 use lib.ListN.{take, drop}
 use Rattle.number.specs.declared.Written.{Written}
 use Rattle.rules.specs.Chart.{classes}
-use Rattle.rules.specs.Reduced.{Kind, standard, reduced}
+use Rattle.rules.specs.Reduced.{reduced}
+use Rattle.rules.specs.declared.Kind.{Kind}
+use Rattle.rules.specs.declared.Kind.the-variants.{Standard as standard}
 use Rattle.rules.specs.Texts.{passKinds}
 use Rattle.rules.specs.Calls.{levelNumber}
 use Rattle.rules.specs.Demand.{SameStreams}

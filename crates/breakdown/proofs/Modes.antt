@@ -15,7 +15,8 @@ use borrow.Author.Tests.{leb-true, leb-false, ne-eqb, eqb-true, eqb-false}
 use Rattle.number.proofs.Each.{Each, none, _&_}
 use Rattle.number.proofs.Split.{split}
 use Rattle.rules.specs.Chart.{classes, Token, token, class, len, runsFrom, runs, flat, toLast, active, activePart, tokens, streams}
-use Rattle.rules.specs.Reduced.{joins, joinFrom, join, short, absorb, item, Item, sn, standard, snItems, pieces, reduced}
+use Rattle.rules.specs.Reduced.{joins, joinFrom, join, short, absorb, item, Item, snItems, pieces, reduced}
+use Rattle.rules.specs.declared.Kind.the-variants.{Sn as sn, Standard as standard}
 use Rattle.rules.specs.Texts.{part, strung, render, text}
 use Rattle.rules.specs.declared.BreakdownMode.{BreakdownMode}
 use Rattle.rules.specs.declared.BreakdownMode.the-variants as Mode

@@ -7,7 +7,8 @@ use mathlib.Core.List.{List, [], _∷_, _++_, map, foldr}
 use Rattle.number.specs.Digits.{digits}
 use Rattle.rules.specs.Bytes.{bytes}
 use Rattle.rules.specs.Chart.{Token, token}
-use Rattle.rules.specs.Reduced.{Item, gap, item, signOf, join, standard, sumOf}
+use Rattle.rules.specs.Reduced.{Item, gap, item, signOf, join, sumOf}
+use Rattle.rules.specs.declared.Kind.the-variants.{Standard as standard}
 use Rattle.rules.specs.Texts.{star, part, strung, render}
 use Rattle.rules.specs.declared.StreamBreakdownLevel.the-variants as Level
 use Rattle.breakdown.specs.Source.{from, end, Alternates}

@@ -4,7 +4,7 @@ use Prim.Native.Nat.{ℕ}
 use mathlib.Core.Path.{_≡_}
 use mathlib.Core.List.{List}
 use Rattle.rules.specs.Chart.{classes}
-use Rattle.rules.specs.Reduced.{standard}
+use Rattle.rules.specs.declared.Kind.the-variants.{Standard as standard}
 use Rattle.rules.specs.declared.StreamBreakdownLevel.the-variants as Level
 use Rattle.rules.proofs.Demand.{same-length, same-text}
 use Rattle.measures.specs.Answers.{countsAnswer, shareAnswer, alikeAnswer}

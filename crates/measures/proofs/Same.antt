@@ -12,7 +12,7 @@ use borrow.Author.Count.{below-more}
 use borrow.Author.Tests.{ltb-true, ltb-false, eq-eqb, eqb-true}
 use Rattle.number.proofs.Split.{split}
 use Rattle.rules.specs.Chart.{classOf, classes, active, activePart}
-use Rattle.rules.specs.Reduced.{standard}
+use Rattle.rules.specs.declared.Kind.the-variants.{Standard as standard}
 use Rattle.rules.specs.Texts.{text}
 use Rattle.rules.specs.Demand.{Stream, SamePlaces, SameStreams}
 use Rattle.rules.specs.declared.StreamBreakdownLevel.the-variants as Level

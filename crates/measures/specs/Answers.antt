@@ -6,7 +6,7 @@ use mathlib.Core.List.{List, [], _∷_}
 use lib.Dec.{eqb, ltb}
 use Rattle.number.specs.Questions.{Question, question, firstNo, accepted}
 use Rattle.rules.specs.Chart.{inDomain, classes, streams, counts, noCounts}
-use Rattle.rules.specs.Reduced.{standard}
+use Rattle.rules.specs.declared.Kind.the-variants.{Standard as standard}
 use Rattle.rules.specs.Texts.{text}
 use Rattle.rules.specs.Calls.{share}
 use Rattle.rules.specs.declared.StreamBreakdownLevel.the-variants as Level

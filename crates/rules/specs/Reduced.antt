@@ -5,15 +5,13 @@ use mathlib.Core.Bool.{Bool, true, cond, _&&_}
 use mathlib.Core.List.{List, [], _∷_, map}
 use lib.Dec.{leb, eqb}
 use Rattle.rules.specs.Chart.{active, Token, token, class, len, runs, tokens, flat, streams}
+-- The seven texts: three SN modes and four standard levels
+pub use Rattle.rules.specs.declared.Kind.{Kind}
+pub use Rattle.rules.specs.declared.Kind.the-variants.{Sn as sn, Standard as standard}
 use Rattle.rules.specs.declared.BreakdownMode.{BreakdownMode}
 use Rattle.rules.specs.declared.BreakdownMode.the-variants as Mode
 use Rattle.rules.specs.declared.StreamBreakdownLevel.{StreamBreakdownLevel}
 use Rattle.rules.specs.declared.StreamBreakdownLevel.the-variants as Level
-
--- The seven texts: three SN modes and four standard levels
-pub data Kind : Type 0 where
-  sn : BreakdownMode → Kind
-  standard : StreamBreakdownLevel → Kind
 
 pub data Sign : Type 0 where
   dash slash bar : Sign

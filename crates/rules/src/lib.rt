@@ -35,6 +35,12 @@ pub enum StreamBreakdownLevel {
     Total,
 }
 
+// The seven texts: three SN modes and four standard levels.
+pub enum Kind {
+    Sn(BreakdownMode),
+    Standard(StreamBreakdownLevel),
+}
+
 // A piece, or a gap of 2 or more: its first measure, one past its last, and which of the two it is.
 #[repr(C)]
 pub struct StreamSegment {

@@ -8,7 +8,8 @@ use Rattle.number.specs.Questions.{question, firstNo, accepted}
 use Rattle.number.specs.Digits.{digits}
 use Rattle.rules.specs.Bytes.{bytes}
 use Rattle.rules.specs.Chart.{classes, counts}
-use Rattle.rules.specs.Reduced.{Kind, standard}
+use Rattle.rules.specs.declared.Kind.{Kind}
+use Rattle.rules.specs.declared.Kind.the-variants.{Standard as standard}
 use Rattle.rules.specs.Texts.{passKinds}
 use Rattle.rules.specs.declared.StreamCounts.{StreamCounts}
 use Rattle.rules.specs.declared.StreamBreakdownLevel.the-variants as Level

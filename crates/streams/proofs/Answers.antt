@@ -2,20 +2,21 @@
 -- Assumes nothing.
 use Prim.Native.Nat.{ℕ, _≤_, _<_}
 use mathlib.Core.Path.{_≡_, refl, sym, ap, _∙_}
-use mathlib.Core.Bool.{Bool, true, false}
+use mathlib.Core.Bool.{Bool, true, false, not}
 use mathlib.Core.Logic.{_≢_}
 use mathlib.Core.List.{List}
 use native.Mathlib.Nat.{zero-add}
 use native.Mathlib.Omega.{arith}
 use lib.Dec.{leb}
 use lib.ListN.{length}
-use borrow.Author.Tests.{le-leb, lt-leb, leb-true}
+use borrow.Author.Tests.{le-leb, lt-leb, leb-true, not-true, not-false}
 use Rattle.number.specs.Place.{Room, Wrote}
 use Rattle.number.specs.Questions.{question, OneText}
 use Rattle.number.specs.declared.Written.{Written}
 use Rattle.number.proofs.Place.{at-start}
 use Rattle.rules.specs.Chart.{classNumber}
-use Rattle.rules.specs.Reduced.{Kind, run}
+use Rattle.rules.specs.Reduced.{run}
+use Rattle.rules.specs.declared.Kind.{Kind}
 use Rattle.rules.specs.Texts.{word, text}
 use Rattle.rules.specs.declared.RunDensity.{RunDensity}
 use Rattle.rules.specs.declared.RunDensity.the-variants.{Run32, Run24, Run20, Run16, Break}
@@ -32,7 +33,14 @@ accepted-0 t old new r h w =
     let s = at-start t old new r (leb-true (length t) (length old) h) w in
     record { answer = ap (λ (k : ℕ). record { refused = 0; length = k }) (s .0); bytes = s .1 }
 
--- ---- generate_breakdown, stream_breakdown
+-- a question that a function answered
+pub said-no : {r b : Bool} → r ≡ b → not r ≡ true → b ≡ false
+said-no {r = r} e h = sym e ∙ not-true r h
+
+pub said-yes : {r b : Bool} → r ≡ b → not r ≡ false → b ≡ true
+said-yes {r = r} e h = sym e ∙ not-false r h
+
+-- ---- a text of one kind
 
 module _ (k : Kind) (m old : List ℕ) where
   pub breakdown-1 : 1048576 < length m → Breakdown k m old old (refusal 1)

@@ -1,24 +1,59 @@
--- Three texts end to end: their length, and how the promise of the calls that write them follows.
+-- Texts end to end: their room, their lengths and their bytes; and how the promise of the calls that write three of them follows.
 -- Assumes nothing.
 use Prim.Native.Nat.{ℕ, _+_, _*_, _-_, _≤_, _<_}
-use mathlib.Core.Path.{_≡_}
+use mathlib.Core.Path.{_≡_, refl, ap}
 use mathlib.Core.Bool.{true, false}
-use mathlib.Core.List.{List, [], _∷_, append-nil}
+use mathlib.Core.List.{List, [], _∷_, _++_, append-nil}
 use native.Mathlib.Nat.{zero-add}
 use native.Mathlib.Omega.{arith}
 use lib.Dec.{leb}
 use lib.ListN.{length, length-append, replicate}
 use borrow.Author.Tests.{le-leb, lt-leb, leb-true}
 use Rattle.number.specs.Place.{Room, Wrote}
-use Rattle.number.proofs.Place.{at-start, room-first, room-next, wrote}
-use Rattle.rules.specs.Reduced.{Kind, sn, standard}
-use Rattle.rules.specs.Texts.{text, snKinds, standardKinds, endToEnd}
-use Rattle.rules.specs.declared.BreakdownMode.the-variants as Mode
-use Rattle.rules.specs.declared.StreamBreakdownLevel.the-variants as Level
-use Rattle.rules.proofs.Bound.{text-most}
+use Rattle.number.specs.Questions.{filled}
+use Rattle.number.proofs.Place.{still, room-first, room-next, wrote, at-start}
+use Rattle.rules.specs.declared.Kind.{Kind}
+use Rattle.rules.specs.Texts.{text, endToEnd, lengthsOf}
 use Rattle.measures.specs.Domain.{Domain}
+use Rattle.streams.proofs.Texts.{text-short}
 use Rattle.streams.specs.Promises.{threeNo, Breakdowns}
 use Rattle.streams.specs.declared.ThreeWritten.{ThreeWritten}
+
+-- room for some texts end to end from `at` on: for the first, and, once that is written, for the others
+module _ (rest : List ℕ) {xs first out : List ℕ} {at : ℕ} (e : xs ≡ first) where
+  pub room-one : Room out at (first ++ rest) → Room out at xs
+  room-one h = rw e (room-first first rest h)
+
+  pub room-others : {mid : List ℕ} {r : ℕ} → Wrote out mid at xs r → Room out at (first ++ rest) → Room mid r rest
+  room-others w h = room-next first rest (rw e at w) h
+
+module _ (m : List ℕ) where
+  -- the texts of some kinds, written one after the other from `at` on, and the length of each
+  pub data Chain : List Kind → List ℕ → ℕ → List ℕ → List ℕ → Type 0 where
+    ended : {out : List ℕ} {at : ℕ} → Chain [] out at out []
+    wrote-one : {k : Kind} {ks : List Kind} {xs out mid new ls : List ℕ} {at r : ℕ} → xs ≡ text k m → Wrote out mid at xs r → Chain ks mid r new ls → Chain (k ∷ ks) out at new ((r - at) ∷ ls)
+
+  chain-lengths : {ks : List Kind} {out new ls : List ℕ} {at : ℕ} → Chain ks out at new ls → ls ≡ lengthsOf ks m
+  chain-lengths ended = refl
+  chain-lengths (wrote-one {k = k} {at = at} {r = r} e w c) =
+      let h : r - at ≡ length (text k m) = omega (arith, w .next, ap {B = ℕ} length e) in
+      rw (h, chain-lengths c)
+
+  chain-wrote : {ks : List Kind} {out new ls : List ℕ} {at : ℕ} → Chain ks out at new ls → (r : ℕ) × Wrote out new at (endToEnd ks m) r
+  chain-wrote ended = (_, still)
+  chain-wrote (wrote-one {k = k} {ks = ks} e w c) =
+      let t = chain-wrote c in
+      (t .0, wrote (text k m) (endToEnd ks m) (rw e at w) (t .1))
+
+  -- from the slice's start on
+  pub from-start : {ks : List Kind} {old new ls : List ℕ} {a : ℕ} → length (endToEnd ks m) ≤ length old → Chain ks old 0 new ((a - 0) ∷ ls)
+      → (a ∷ ls ≡ lengthsOf ks m) × (new ≡ filled old (endToEnd ks m))
+  from-start {ks} {old} {new} {a = a} h c =
+      let w = chain-wrote c in
+      let z : a - 0 ≡ a = omega arith in
+      (rw z at (chain-lengths c), at-start (endToEnd ks m) old new (w .0) h (w .1) .1)
+
+-- ---- three texts
 
 module _ (k₁ k₂ k₃ : Kind) (m : List ℕ) where
   abbrev ks : List Kind
@@ -27,8 +62,11 @@ module _ (k₁ k₂ k₃ : Kind) (m : List ℕ) where
   abbrev whole : List ℕ
   whole = endToEnd ks m
 
-  pub three-length : length whole ≡ length (text k₁ m) + (length (text k₂ m) + length (text k₃ m))
-  three-length = simp (append-nil, length-append)
+  pub three-length : length whole ≡ length (text k₁ m) + length (text k₂ m) + length (text k₃ m)
+  three-length = simp (append-nil, length-append) (omega arith)
+
+  pub three-short : length whole ≤ 12 * length m + 33
+  three-short = omega (arith, three-length, text-short m k₁, text-short m k₂, text-short m k₃)
 
   module _ (old : List ℕ) where
     abbrev refusal : ℕ → ThreeWritten
@@ -69,20 +107,7 @@ module _ (k₁ k₂ k₃ : Kind) (m : List ℕ) where
 
             pub three-0 : {new : List ℕ} {c : ℕ} → Wrote mid₂ new b (text k₃ m) c
                 → Breakdowns ks m old new (record { refused = 0; lengths = a ∷ (b - a) ∷ (c - b) ∷ [] })
-            three-0 {new} {c} w =
+            three-0 w =
                 let no : threeNo ks m old ≡ 0 = rw (le-leb (length m) 1048576 d, h) in
-                let last : Wrote mid₂ new b (endToEnd (k₃ ∷ []) m) c = rw append-nil w in
-                let s = at-start whole old new c fits (wrote _ _ u (wrote _ _ v last)) in
-                let x : a ≡ length (text k₁ m) = omega (arith, u .next) in
-                let y : b - a ≡ length (text k₂ m) = omega (arith, v .next) in
-                let z : c - b ≡ length (text k₃ m) = omega (arith, w .next) in
-                record { answer = rw (no, z, y, x); bytes = rw no (s .1) }
-
-module _ (m : List ℕ) where
-  pub sn-three-most : length (endToEnd snKinds m) ≤ 12 * length m
-  sn-three-most =
-      omega (arith, three-length (sn Mode.Detailed) (sn Mode.Partial) (sn Mode.Simplified) m, text-most m (sn Mode.Detailed), text-most m (sn Mode.Partial), text-most m (sn Mode.Simplified))
-
-  pub standard-three-most : length (endToEnd standardKinds m) ≤ 5 * length m + 33
-  standard-three-most =
-      omega (arith, three-length (standard Level.Detailed) (standard Level.Partial) (standard Level.Simple) m, text-most m (standard Level.Detailed), text-most m (standard Level.Partial), text-most m (standard Level.Simple))
+                let s = from-start m fits (wrote-one refl u (wrote-one refl v (wrote-one refl w ended))) in
+                record { answer = rw (no, s .0); bytes = rw no (s .1) }

@@ -2,16 +2,18 @@
 -- Assumes nothing.
 use Prim.Native.Nat.{ℕ, _+_, _-_, _≤_, _<_}
 use mathlib.Core.Path.{_≡_, refl, sym, subst, _∙_}
+use mathlib.Core.Bool.{true, false}
 use mathlib.Core.Logic.{_≢_}
 use mathlib.Core.List.{List, [], _∷_}
 use native.Mathlib.Omega.{arith}
+use lib.Dec.{leb}
 use lib.ListN.{length, drop}
-use borrow.Author.Tests.{le-leb, lt-leb}
+use borrow.Author.Tests.{le-leb, lt-leb, leb-true}
 use Rattle.number.specs.Place.{Wrote}
 use Rattle.number.specs.Questions.{firstNo, accepted, filled, roomFor}
 use Rattle.number.proofs.Place.{at-start}
 use Rattle.rules.specs.Chart.{inDomain}
-use Rattle.rules.specs.Reduced.{standard}
+use Rattle.rules.specs.declared.Kind.the-variants.{Standard as standard}
 use Rattle.rules.specs.Texts.{text}
 use Rattle.rules.specs.Calls.{levels, levelNumber, firstWithin, labelChoice}
 use Rattle.rules.specs.declared.StreamBreakdownLevel.{StreamBreakdownLevel}
@@ -84,12 +86,12 @@ module _ (width : ℕ) (m : List ℕ) where
       pub label-6 : NoneFits ≡ labelChoice width m → Label width m old old (refusal 6)
       label-6 e = shown e (rw (le-leb (length m) 1048576 d) (refl, refl))
 
-      module _ (l : StreamBreakdownLevel) (e : Fits l ≡ labelChoice width m) (n : ℕ) (f : n ≡ length (text (standard l) m)) where
-        pub label-4 : length old < n → Label width m old old (refusal 4)
-        label-4 h = shown e (rw (le-leb (length m) 1048576 d, lt-leb _ _ (rw f at h)) (refl, refl))
+      module _ (l : StreamBreakdownLevel) (e : Fits l ≡ labelChoice width m) where
+        pub label-4 : leb (length (text (standard l) m)) (length old) ≡ false → Label width m old old (refusal 4)
+        label-4 h = shown e (rw (le-leb (length m) 1048576 d, h) (refl, refl))
 
-        pub label-0 : {new : List ℕ} {r k : ℕ} → n ≤ length old → Wrote old new 0 (text (standard l) m) r → k ≡ levelNumber l
-            → Label width m old new (record { refused = 0; level = k; length = r })
-        label-0 {new} {r} {k} h w g =
-            let s = at-start (text (standard l) m) old new r (rw f at h) w in
-            shown e (rw (le-leb (length m) 1048576 d, le-leb _ _ (rw f at h)) (rw (g, s .0), s .1))
+        pub label-0 : {new : List ℕ} {r k : ℕ} → leb (length (text (standard l) m)) (length old) ≡ true → Wrote old new 0 (text (standard l) m) r
+            → k ≡ levelNumber l → Label width m old new (record { refused = 0; level = k; length = r })
+        label-0 {new} {r} h w g =
+            let s = at-start (text (standard l) m) old new r (leb-true _ _ h) w in
+            shown e (rw (le-leb (length m) 1048576 d, h) (rw (g, s .0), s .1))

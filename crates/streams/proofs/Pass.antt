@@ -2,18 +2,17 @@
 -- Assumes nothing.
 use Prim.Native.Nat.{ℕ, suc, _+_, _*_, _-_, _≤_, _<_}
 use mathlib.Core.Path.{_≡_, refl, sym, ap, _∙_}
-use mathlib.Core.Bool.{Bool, true, false, not}
-use mathlib.Core.List.{List, [], _∷_, _++_}
+use mathlib.Core.Bool.{true, false}
+use mathlib.Core.List.{List, [], _∷_}
 use native.Mathlib.Omega.{arith}
 use lib.Dec.{leb}
 use lib.ListN.{length, take, length-append}
 use lib.Seq.{length-take-le}
-use borrow.Author.Tests.{le-leb, lt-leb, not-true, not-false}
-use Rattle.number.specs.Place.{Room, Wrote}
-use Rattle.number.proofs.Place.{still, room-first, room-next, wrote, at-start}
-use Rattle.rules.specs.Chart.{classes, Token, token, activePart, tokens, counts}
-use Rattle.rules.specs.Reduced.{Kind, sn, standard}
-use Rattle.rules.specs.Texts.{text, passKinds, endToEnd, lengthsOf}
+use borrow.Author.Tests.{le-leb, lt-leb}
+use Rattle.number.specs.Place.{Room}
+use Rattle.rules.specs.Chart.{classes, activePart, tokens, counts}
+use Rattle.rules.specs.declared.Kind.the-variants.{Sn as sn, Standard as standard}
+use Rattle.rules.specs.Texts.{text, passKinds, endToEnd}
 use Rattle.rules.specs.declared.BreakdownMode.{BreakdownMode}
 use Rattle.rules.specs.declared.BreakdownMode.the-variants as Mode
 use Rattle.rules.specs.declared.StreamBreakdownLevel.the-variants as Level
@@ -26,7 +25,8 @@ use Rattle.measures.proofs.Written.{withinC, withinN, back}
 use Rattle.breakdown.specs.Source.{Source}
 use Rattle.breakdown.specs.Sn.{limitOf, snText}
 use Rattle.breakdown.specs.Standard.{standardText}
-use Rattle.breakdown.proofs.Modes.{from-measures, source-measures, source-tokens, sn-text, detailed-text, partial-text, simple-text}
+use Rattle.breakdown.proofs.Modes.{from-measures, source-tokens, sn-text, detailed-text, partial-text, simple-text}
+use Rattle.streams.proofs.EndToEnd.{Chain, from-start}
 use Rattle.streams.specs.Promises.{passNo, Outputs}
 use Rattle.streams.specs.Pass.{Tokened, SixTexts, refusedPass}
 
@@ -39,9 +39,6 @@ roomy m =
     (omega (arith, text-most m (sn Mode.Detailed), text-most m (sn Mode.Partial), text-most m (sn Mode.Simplified), text-most m (standard Level.Detailed), text-most m (standard Level.Partial), text-most m (standard Level.Simple)))
 
 module _ (m part : List ℕ) (e : part ≡ activePart m) where
-  pub measured : length m ≤ 1048576 → Source part [] []
-  measured h = rw e (source-measures m h)
-
   -- the lengths of the six texts, from the measures of the active part
   pub all-six : length (snText 0 part [] [] 0) + length (snText 1 part [] [] 0) + length (snText 4 part [] [] 0) + length (standardText false 0 part [] []) + length (standardText true 0 part [] []) + length (standardText true 1 part [] []) ≡ length (endToEnd passKinds m)
   all-six =
@@ -51,32 +48,6 @@ module _ (m part : List ℕ) (e : part ≡ activePart m) where
       (simp length-append (omega arith))
 
 -- ---- written
-
--- room for some texts end to end from `at` on: for the first, and, once that is written, for the others
-module _ (rest : List ℕ) {xs first out : List ℕ} {at : ℕ} (e : xs ≡ first) where
-  pub room-one : Room out at (first ++ rest) → Room out at xs
-  room-one h = rw e (room-first first rest h)
-
-  pub room-others : {mid : List ℕ} {r : ℕ} → Wrote out mid at xs r → Room out at (first ++ rest) → Room mid r rest
-  room-others w h = room-next first rest (rw e at w) h
-
-module _ (m : List ℕ) where
-  -- the texts of some kinds, written one after the other from `at` on, and the length of each
-  pub data Chain : List Kind → List ℕ → ℕ → List ℕ → List ℕ → Type 0 where
-    ended : {out : List ℕ} {at : ℕ} → Chain [] out at out []
-    wrote-one : {k : Kind} {ks : List Kind} {xs out mid new ls : List ℕ} {at r : ℕ} → xs ≡ text k m → Wrote out mid at xs r → Chain ks mid r new ls → Chain (k ∷ ks) out at new ((r - at) ∷ ls)
-
-  chain-lengths : {ks : List Kind} {out new ls : List ℕ} {at : ℕ} → Chain ks out at new ls → ls ≡ lengthsOf ks m
-  chain-lengths ended = refl
-  chain-lengths (wrote-one {k = k} {at = at} {r = r} e w c) =
-      let h : r - at ≡ length (text k m) = omega (arith, w .next, ap {B = ℕ} length e) in
-      rw (h, chain-lengths c)
-
-  chain-wrote : {ks : List Kind} {out new ls : List ℕ} {at : ℕ} → Chain ks out at new ls → (r : ℕ) × Wrote out new at (endToEnd ks m) r
-  chain-wrote ended = (_, still)
-  chain-wrote (wrote-one {k = k} {ks = ks} e w c) =
-      let t = chain-wrote c in
-      (t .0, wrote (text k m) (endToEnd ks m) (rw e at w) (t .1))
 
 paired-length : (cs ns : List ℕ) → length cs ≡ length ns → length (paired cs ns) ≡ length cs
 paired-length [] ns e = refl
@@ -104,19 +75,9 @@ module _ {m cs ns old : List ℕ} (t : Tokened m cs ns old) where
   room = record { fits = omega (arith, t .room) }
 
   pub six : {new ls : List ℕ} {a : ℕ} → Chain m passKinds old 0 new ((a - 0) ∷ ls) → SixTexts m old new (a ∷ ls)
-  six {new = new} {a = a} c =
-      let w = chain-wrote m c in
-      let h : a - 0 ≡ a = omega arith in
-      record { each = rw h at (chain-lengths m c); bytes = at-start (endToEnd passKinds m) old new (w .0) (t .room) (w .1) .1 }
+  six c = let s = from-start m (t .room) c in record { each = s .0; bytes = s .1 }
 
 -- ---- the pass
-
--- a question that a function answered
-pub said-no : {r b : Bool} → r ≡ b → not r ≡ true → b ≡ false
-said-no {r = r} e h = sym e ∙ not-true r h
-
-pub said-yes : {r b : Bool} → r ≡ b → not r ≡ false → b ≡ true
-said-yes {r = r} e h = sym e ∙ not-false r h
 
 module _ (m cs ns old : List ℕ) where
   refused : (j : ℕ) → passNo m cs ns old ≡ suc j → Outputs m cs cs ns ns old old (refusedPass (suc j))

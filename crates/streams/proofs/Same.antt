@@ -6,8 +6,9 @@ use mathlib.Core.List.{List, [], _∷_}
 use Rattle.number.specs.Questions.{firstNo, roomFor}
 use Rattle.number.specs.declared.Written.{Written}
 use Rattle.rules.specs.Chart.{inDomain, classes}
-use Rattle.rules.specs.Reduced.{Kind, standard}
-use Rattle.rules.specs.Texts.{text, passKinds}
+use Rattle.rules.specs.declared.Kind.{Kind}
+use Rattle.rules.specs.declared.Kind.the-variants.{Standard as standard}
+use Rattle.rules.specs.Texts.{passKinds}
 use Rattle.rules.specs.Calls.{levels, firstWithin, labelChoice}
 use Rattle.rules.specs.declared.StreamBreakdownLevel.{StreamBreakdownLevel}
 use Rattle.rules.specs.declared.LabelChoice.{LabelChoice}

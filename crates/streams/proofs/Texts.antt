@@ -1,73 +1,61 @@
--- Crate `breakdown`'s texts from the active part are the chart's texts, by mode and by level.
+-- A text of crate `breakdown`, made from the measures of the active part, is the chart's; and the most bytes of a text. Both for every kind.
 -- Assumes nothing.
 use Prim.Native.Nat.{ℕ, _+_, _*_, _≤_}
 use mathlib.Core.Path.{_≡_}
-use mathlib.Core.Bool.{Bool}
-use mathlib.Core.Logic.{inl, inr}
-use mathlib.Core.List.{List, [], _∷_}
+use mathlib.Core.Bool.{true, false}
+use mathlib.Core.List.{List, []}
 use native.Mathlib.Omega.{arith}
 use lib.ListN.{length}
-use types.Run.{OneOf}
-use denote.Enum.Declared.{tagOf}
-use Rattle.number.specs.Place.{Room}
-use Rattle.rules.specs.Chart.{classes, activePart, tokens}
-use Rattle.rules.specs.Reduced.{sn, standard}
+use Rattle.number.specs.Place.{Room, Wrote}
+use Rattle.rules.specs.Chart.{classes, activePart, tokens, streams}
 use Rattle.rules.specs.Texts.{text}
-use Rattle.rules.specs.declared.BreakdownMode.{BreakdownMode}
-use Rattle.rules.specs.declared.StreamBreakdownLevel.{StreamBreakdownLevel}
+use Rattle.rules.specs.declared.Kind.{Kind}
+use Rattle.rules.specs.declared.Kind.the-variants.{Sn as sn, Standard as standard}
 use Rattle.rules.specs.declared.StreamBreakdownLevel.the-variants as Level
-use Rattle.rules.proofs.StreamBreakdownLevel.{the-type}
 use Rattle.rules.proofs.Bound.{text-most}
 use Rattle.measures.specs.Domain.{Domain}
 use Rattle.breakdown.specs.Source.{from, Source}
 use Rattle.breakdown.specs.Sn.{limitOf, snText}
-use Rattle.breakdown.specs.Standard.{standardText}
-use Rattle.breakdown.proofs.Modes.{from-measures, source-measures, sn-text, detailed-text, partial-text, simple-text}
-use Rattle.streams.specs.Kinds.{pieceLimit, withSigns}
+use Rattle.breakdown.specs.Standard.{standardText, totalText}
+use Rattle.breakdown.proofs.Modes.{from-measures, source-measures, sn-text, detailed-text, partial-text, simple-text, total-text}
 
--- a level other than Total, as a test tells it
-abbrev NotTotal : StreamBreakdownLevel → Type 0
-NotTotal l = OneOf (0 ∷ 1 ∷ 2 ∷ []) (tagOf the-type l)
+module _ (m part : List ℕ) where
+  -- the text by the settings for each kind
+  abbrev pub made : Kind → List ℕ
+  made (sn mode) = snText (limitOf mode) part [] [] 0
+  made (standard Level.Detailed) = standardText false 0 part [] []
+  made (standard Level.Partial) = standardText true 0 part [] []
+  made (standard Level.Simple) = standardText true 1 part [] []
+  made (standard Level.Total) = totalText (streams (classes m))
 
-module _ (m part : List ℕ) (e : part ≡ activePart m) where
-  pub source : Domain m → Source part [] []
-  source d = rw e (source-measures m (d .few))
+  module _ (e : part ≡ activePart m) where
+    read : from part [] [] 0 ≡ tokens (classes m)
+    read = rw e (from-measures m)
 
-  read : from part [] [] 0 ≡ tokens (classes m)
-  read = rw e (from-measures m)
+    made-text : (k : Kind) → made k ≡ text k m
+    made-text (sn mode) = sn-text part [] [] m read mode
+    made-text (standard Level.Detailed) = detailed-text part [] [] m read
+    made-text (standard Level.Partial) = partial-text part [] [] m read
+    made-text (standard Level.Simple) = simple-text part [] [] m read
+    made-text (standard Level.Total) = total-text m
 
-  -- the limit k and the flag b, as the settings that the code works out
-  module _ (mode : BreakdownMode) (k : ℕ) (h : k ≡ limitOf mode) where
-    pub sn-part : snText k part [] [] 0 ≡ text (sn mode) m
-    sn-part = rw h (sn-text part [] [] m read mode)
+    pub source : Domain m → Source part [] []
+    source d = rw e (source-measures m (d .few))
 
-    pub sn-ready : {out : List ℕ} {at : ℕ} → Domain m × Room out at (text (sn mode) m)
-        → Source part [] [] × Room out at (snText k part [] [] 0)
-    sn-ready (d, r) = (source d, rw sn-part r)
+    -- in the arm for the kind k
+    module _ {kind k : Kind} (f : kind ≡ k) where
+      pub due : {r : ℕ} → r ≡ length (made k) → r ≡ length (text kind m)
+      due h = rw (f, ← made-text k) h
 
-  module _ (l : StreamBreakdownLevel) (k : ℕ) (b : Bool) (h : k ≡ pieceLimit l) (g : b ≡ withSigns l) (t : NotTotal l) where
-    pub standard-part : standardText b k part [] [] ≡ text (standard l) m
-    standard-part = rw (h, g) (go l t)
-      where
-        go : (l : StreamBreakdownLevel) → NotTotal l → standardText (withSigns l) (pieceLimit l) part [] [] ≡ text (standard l) m
-        go Level.Detailed t = detailed-text part [] [] m read
-        go Level.Partial t = partial-text part [] [] m read
-        go Level.Simple t = simple-text part [] [] m read
-        go Level.Total (inl t) = absurd (omega arith)
-        go Level.Total (inr (inl t)) = absurd (omega arith)
-        go Level.Total (inr (inr t)) = absurd (omega arith)
+      pub ready : {out : List ℕ} {at : ℕ} → Domain m × Room out at (text kind m) → Source part [] [] × Room out at (made k)
+      ready (d, r) = (source d, rw (made-text k, ← f) r)
 
-    pub standard-ready : {out : List ℕ} {at : ℕ} → Domain m × Room out at (text (standard l) m)
-        → Source part [] [] × Room out at (standardText b k part [] [])
-    standard-ready (d, r) = (source d, rw standard-part r)
+      pub put : {out new : List ℕ} {at r : ℕ} → Wrote out new at (made k) r → Wrote out new at (text kind m) r
+      put w = rw (f, ← made-text k) w
 
--- ---- the most bytes of a text, whatever its mode or level
-
-pub sn-most : (m : List ℕ) (mode : BreakdownMode) → length (text (sn mode) m) ≤ 4 * length m
-sn-most m mode = text-most m (sn mode)
-
-pub standard-most : (m : List ℕ) (l : StreamBreakdownLevel) → length (text (standard l) m) ≤ 3 * length m + 11
-standard-most m Level.Detailed = text-most m (standard Level.Detailed)
-standard-most m Level.Partial = omega (arith, text-most m (standard Level.Partial))
-standard-most m Level.Simple = omega (arith, text-most m (standard Level.Simple))
-standard-most m Level.Total = omega (arith, text-most m (standard Level.Total))
+pub text-short : (m : List ℕ) (k : Kind) → length (text k m) ≤ 4 * length m + 11
+text-short m (sn mode) = omega (arith, text-most m (sn mode))
+text-short m (standard Level.Detailed) = omega (arith, text-most m (standard Level.Detailed))
+text-short m (standard Level.Partial) = omega (arith, text-most m (standard Level.Partial))
+text-short m (standard Level.Simple) = omega (arith, text-most m (standard Level.Simple))
+text-short m (standard Level.Total) = omega (arith, text-most m (standard Level.Total))

@@ -1,6 +1,6 @@
 -- The promises of the calls that write texts: what comes back and what every lent slice holds then, in refusals too.
 -- Assumes nothing.
-use Prim.Native.Nat.{ℕ, _≤_}
+use Prim.Native.Nat.{ℕ}
 use mathlib.Core.Path.{_≡_}
 use mathlib.Core.Bool.{Bool, true, false, cond, _&&_}
 use mathlib.Core.List.{List, [], _∷_, map}
@@ -9,7 +9,8 @@ use lib.ListN.{length, replicate}
 use Rattle.number.specs.Questions.{Question, question, firstNo, accepted, filled, roomFor, OneText}
 use Rattle.number.specs.declared.Written.{Written}
 use Rattle.rules.specs.Chart.{inDomain, classes, classNumber, class, len, tokens, counts, noCounts}
-use Rattle.rules.specs.Reduced.{Kind, standard}
+use Rattle.rules.specs.declared.Kind.{Kind}
+use Rattle.rules.specs.declared.Kind.the-variants.{Standard as standard}
 use Rattle.rules.specs.Texts.{text, passKinds, endToEnd, lengthsOf}
 use Rattle.rules.specs.Calls.{runSymbol, levelNumber, labelChoice}
 use Rattle.rules.specs.declared.RunDensity.{RunDensity}

@@ -1,11 +1,10 @@
-// Modes and levels as the settings of crate `breakdown`, and levels by their numbers.
+// A mode's join limit, and levels by their numbers.
 use rules::BreakdownMode;
 use rules::StreamBreakdownLevel;
 ghost use mathlib.Core.Path.{_≡_};
 ghost use Prim.Native.Nat.{_≤_};
 ghost use Rattle.rules.specs.Calls.{levelNumber};
 ghost use Rattle.breakdown.specs.Sn.{limitOf};
-ghost use Rattle.streams.specs.Kinds.{pieceLimit, withSigns};
 
 // The longest break over which runs of one class join.
 pub fn sn_limit(mode: BreakdownMode) -> u32
@@ -15,30 +14,6 @@ pub fn sn_limit(mode: BreakdownMode) -> u32
         BreakdownMode::Detailed => 0,
         BreakdownMode::Partial => 1,
         BreakdownMode::Simplified => 4,
-    }
-}
-
-// The longest gap over which pieces join.
-pub fn piece_limit(level: StreamBreakdownLevel) -> u32
-    ensures { λ r. ⌜ r ≡ pieceLimit level ⌝ }
-{
-    match level {
-        StreamBreakdownLevel::Detailed => 0,
-        StreamBreakdownLevel::Partial => 0,
-        StreamBreakdownLevel::Simple => 1,
-        StreamBreakdownLevel::Total => 0,
-    }
-}
-
-// Are gaps shown as signs?
-pub fn with_signs(level: StreamBreakdownLevel) -> bool
-    ensures { λ r. ⌜ r ≡ withSigns level ⌝ }
-{
-    match level {
-        StreamBreakdownLevel::Detailed => false,
-        StreamBreakdownLevel::Partial => true,
-        StreamBreakdownLevel::Simple => true,
-        StreamBreakdownLevel::Total => true,
     }
 }
 

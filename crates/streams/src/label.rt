@@ -2,8 +2,10 @@
 use crate::LabelWritten;
 use crate::kind::level_at;
 use crate::kind::level_number;
-use crate::text::put_standard;
-use crate::text::standard_due;
+use crate::text::put_text;
+use crate::text::text_due;
+use crate::text::text_fits;
+use rules::Kind;
 use rules::LabelChoice;
 ghost use mathlib.Core.Path.{_≡_};
 ghost use Rattle.rules.specs.Calls.{labelChoice};
@@ -18,7 +20,7 @@ fn choose(m: &[u32], width: usize) -> LabelChoice
     let mut n: u32 = 1;
     loop {
         let level = level_at(n);
-        if standard_due(m, level) <= width {
+        if text_due(m, Kind::Standard(level)) <= width {
             break LabelChoice::Fits(level);
         }
         if n == 4 {
@@ -48,10 +50,11 @@ pub fn label(m: &[u32], width: usize, out: &mut [u8]) -> LabelWritten
     let LabelChoice::Fits(level) = choose(m, width) else {
         return refused(6);
     };
-    if out.len() < standard_due(m, level) {
+    let kind = Kind::Standard(level);
+    if !text_fits(m, kind, out.len()) {
         return refused(4);
     }
-    let length = put_standard(m, level, out, 0);
+    let length = put_text(m, kind, out, 0);
     LabelWritten {
         refused: 0,
         level: level_number(level),

@@ -1,7 +1,5 @@
-// One text, measured and written from the measures, with no token slice.
-use crate::kind::piece_limit;
+// One text by its kind, measured and written from the measures, with no token slice.
 use crate::kind::sn_limit;
-use crate::kind::with_signs;
 use breakdown::sn::sn_length;
 use breakdown::sn::sn_text;
 use breakdown::standard::standard_length;
@@ -10,31 +8,15 @@ use breakdown::total::total_length;
 use breakdown::total::total_text;
 use measures::active::active_range;
 use measures::counts::chart_counts;
-use rules::BreakdownMode;
+use rules::Kind;
 use rules::StreamBreakdownLevel;
 ghost use mathlib.Core.Path.{_≡_};
+ghost use lib.Dec.{leb};
 ghost use lib.ListN.{length};
 ghost use Rattle.number.specs.Place.{Room, Wrote};
 ghost use Rattle.rules.specs.Chart.{classes, streams};
-ghost use Rattle.rules.specs.Reduced.{sn, standard};
 ghost use Rattle.rules.specs.Texts.{text};
 ghost use Rattle.measures.specs.Domain.{Domain};
-
-// The length of an SN text.
-pub fn sn_due(m: &[u32], mode: BreakdownMode) -> usize
-    requires { ⌜ Domain (now m) ⌝ }
-    ensures { λ r. ⌜ r ≡ length (text (sn mode) (now (m .entry))) ⌝ }
-{
-    sn_length(active_range(m), b"", &m[..0], sn_limit(mode))
-}
-
-// An SN text at the place `at`; the next place is answered.
-pub fn put_sn(m: &[u32], mode: BreakdownMode, out: &mut [u8], at: usize) -> usize
-    requires { ⌜ Domain (now m) × Room (now out) at (text (sn mode) (now m)) ⌝ }
-    ensures { λ r. ⌜ Wrote (now (out .entry)) (now (out .exit)) at (text (sn mode) (now (m .entry))) r ⌝ }
-{
-    sn_text(active_range(m), b"", &m[..0], sn_limit(mode), out, at)
-}
 
 // The number of stream measures.
 fn stream_count(m: &[u32]) -> u64
@@ -48,38 +30,49 @@ fn stream_count(m: &[u32]) -> u64
         + counts.run32_streams) as u64
 }
 
-// The length of a standard text.
-pub fn standard_due(m: &[u32], level: StreamBreakdownLevel) -> usize
+// The text's length.
+pub fn text_due(m: &[u32], kind: Kind) -> usize
     requires { ⌜ Domain (now m) ⌝ }
-    ensures { λ r. ⌜ r ≡ length (text (standard level) (now (m .entry))) ⌝ }
+    ensures { λ r. ⌜ r ≡ length (text kind (now (m .entry))) ⌝ }
 {
-    if let StreamBreakdownLevel::Total = level {
-        return total_length(stream_count(m));
+    let part = active_range(m);
+    let none = &m[..0];
+    match kind {
+        Kind::Sn(mode) => sn_length(part, b"", none, sn_limit(mode)),
+        Kind::Standard(level) => match level {
+            StreamBreakdownLevel::Detailed => standard_length(part, b"", none, 0, false),
+            StreamBreakdownLevel::Partial => standard_length(part, b"", none, 0, true),
+            StreamBreakdownLevel::Simple => standard_length(part, b"", none, 1, true),
+            StreamBreakdownLevel::Total => total_length(stream_count(m)),
+        },
     }
-    standard_length(
-        active_range(m),
-        b"",
-        &m[..0],
-        piece_limit(level),
-        with_signs(level),
-    )
 }
 
-// A standard text at the place `at`; the next place is answered.
-pub fn put_standard(m: &[u32], level: StreamBreakdownLevel, out: &mut [u8], at: usize) -> usize
-    requires { ⌜ Domain (now m) × Room (now out) at (text (standard level) (now m)) ⌝ }
-    ensures { λ r. ⌜ Wrote (now (out .entry)) (now (out .exit)) at (text (standard level) (now (m .entry))) r ⌝ }
+// Question 4. The text is measured only where the slice could be too short for it.
+pub fn text_fits(m: &[u32], kind: Kind, room: usize) -> bool
+    requires { ⌜ Domain (now m) ⌝ }
+    ensures { λ r. ⌜ r ≡ leb (length (text kind (now (m .entry)))) room ⌝ }
 {
-    if let StreamBreakdownLevel::Total = level {
-        return total_text(stream_count(m), out, at);
+    if 4 * m.len() + 11 <= room {
+        return true;
     }
-    standard_text(
-        active_range(m),
-        b"",
-        &m[..0],
-        piece_limit(level),
-        with_signs(level),
-        out,
-        at,
-    )
+    text_due(m, kind) <= room
+}
+
+// The text at the place `at`; the next place is answered.
+pub fn put_text(m: &[u32], kind: Kind, out: &mut [u8], at: usize) -> usize
+    requires { ⌜ Domain (now m) × Room (now out) at (text kind (now m)) ⌝ }
+    ensures { λ r. ⌜ Wrote (now (out .entry)) (now (out .exit)) at (text kind (now (m .entry))) r ⌝ }
+{
+    let part = active_range(m);
+    let none = &m[..0];
+    match kind {
+        Kind::Sn(mode) => sn_text(part, b"", none, sn_limit(mode), out, at),
+        Kind::Standard(level) => match level {
+            StreamBreakdownLevel::Detailed => standard_text(part, b"", none, 0, false, out, at),
+            StreamBreakdownLevel::Partial => standard_text(part, b"", none, 0, true, out, at),
+            StreamBreakdownLevel::Simple => standard_text(part, b"", none, 1, true, out, at),
+            StreamBreakdownLevel::Total => total_text(stream_count(m), out, at),
+        },
+    }
 }

@@ -1,12 +1,12 @@
 // Calls that write three texts end to end: the SN texts, the standard texts.
 use crate::ThreeWritten;
-use crate::text::put_sn;
-use crate::text::put_standard;
-use crate::text::sn_due;
-use crate::text::standard_due;
+use crate::text::put_text;
+use crate::text::text_due;
 use rules::BreakdownMode;
+use rules::Kind;
 use rules::StreamBreakdownLevel;
 ghost use mathlib.Core.Path.{_≡_};
+ghost use mathlib.Core.List.{[], _∷_};
 ghost use lib.Dec.{leb};
 ghost use lib.ListN.{length, replicate};
 ghost use Rattle.rules.specs.Texts.{snKinds, standardKinds, endToEnd};
@@ -23,66 +23,51 @@ fn refused(number: u32) -> ThreeWritten
 }
 
 // Question 4. The texts are measured only where the slice could be too short for them.
-fn sn_texts_fit(m: &[u32], room: usize) -> bool
+fn texts_fit(m: &[u32], a: Kind, b: Kind, c: Kind, room: usize) -> bool
     requires { ⌜ Domain (now m) ⌝ }
-    ensures { λ r. ⌜ r ≡ leb (length (endToEnd snKinds (now (m .entry)))) room ⌝ }
+    ensures { λ r. ⌜ r ≡ leb (length (endToEnd (a ∷ b ∷ c ∷ []) (now (m .entry)))) room ⌝ }
 {
-    if 12 * m.len() <= room {
+    if 12 * m.len() + 33 <= room {
         return true;
     }
-    let a = sn_due(m, BreakdownMode::Detailed);
-    let b = sn_due(m, BreakdownMode::Partial);
-    let c = sn_due(m, BreakdownMode::Simplified);
-    a + (b + c) <= room
+    text_due(m, a) + text_due(m, b) + text_due(m, c) <= room
 }
 
-fn standard_texts_fit(m: &[u32], room: usize) -> bool
-    requires { ⌜ Domain (now m) ⌝ }
-    ensures { λ r. ⌜ r ≡ leb (length (endToEnd standardKinds (now (m .entry)))) room ⌝ }
+// The texts of three kinds. Questions 1, 4.
+fn write_three(m: &[u32], a: Kind, b: Kind, c: Kind, out: &mut [u8]) -> ThreeWritten
+    ensures { λ r. ⌜ Breakdowns (a ∷ b ∷ c ∷ []) (now (m .entry)) (now (out .entry)) (now (out .exit)) r ⌝ }
 {
-    if 5 * m.len() + 33 <= room {
-        return true;
+    if m.len() > 1048576 {
+        return refused(1);
     }
-    let a = standard_due(m, StreamBreakdownLevel::Detailed);
-    let b = standard_due(m, StreamBreakdownLevel::Partial);
-    let c = standard_due(m, StreamBreakdownLevel::Simple);
-    a + (b + c) <= room
+    if !texts_fit(m, a, b, c, out.len()) {
+        return refused(4);
+    }
+    let first = put_text(m, a, out, 0);
+    let second = put_text(m, b, out, first);
+    let third = put_text(m, c, out, second);
+    ThreeWritten {
+        refused: 0,
+        lengths: [first, second - first, third - second],
+    }
 }
 
-// The SN texts: detailed, partial, simplified. Questions 1, 4.
+// The SN texts: detailed, partial, simplified.
 pub fn generate_breakdowns(m: &[u32], out: &mut [u8]) -> ThreeWritten
     ensures { λ r. ⌜ Breakdowns snKinds (now (m .entry)) (now (out .entry)) (now (out .exit)) r ⌝ }
 {
-    if m.len() > 1048576 {
-        return refused(1);
-    }
-    if !sn_texts_fit(m, out.len()) {
-        return refused(4);
-    }
-    let a = put_sn(m, BreakdownMode::Detailed, out, 0);
-    let b = put_sn(m, BreakdownMode::Partial, out, a);
-    let c = put_sn(m, BreakdownMode::Simplified, out, b);
-    ThreeWritten {
-        refused: 0,
-        lengths: [a, b - a, c - b],
-    }
+    let detailed = Kind::Sn(BreakdownMode::Detailed);
+    let partial = Kind::Sn(BreakdownMode::Partial);
+    let simplified = Kind::Sn(BreakdownMode::Simplified);
+    write_three(m, detailed, partial, simplified, out)
 }
 
-// The standard texts: detailed, partial, simple. Questions 1, 4.
+// The standard texts: detailed, partial, simple.
 pub fn stream_breakdowns(m: &[u32], out: &mut [u8]) -> ThreeWritten
     ensures { λ r. ⌜ Breakdowns standardKinds (now (m .entry)) (now (out .entry)) (now (out .exit)) r ⌝ }
 {
-    if m.len() > 1048576 {
-        return refused(1);
-    }
-    if !standard_texts_fit(m, out.len()) {
-        return refused(4);
-    }
-    let a = put_standard(m, StreamBreakdownLevel::Detailed, out, 0);
-    let b = put_standard(m, StreamBreakdownLevel::Partial, out, a);
-    let c = put_standard(m, StreamBreakdownLevel::Simple, out, b);
-    ThreeWritten {
-        refused: 0,
-        lengths: [a, b - a, c - b],
-    }
+    let detailed = Kind::Standard(StreamBreakdownLevel::Detailed);
+    let partial = Kind::Standard(StreamBreakdownLevel::Partial);
+    let simple = Kind::Standard(StreamBreakdownLevel::Simple);
+    write_three(m, detailed, partial, simple, out)
 }

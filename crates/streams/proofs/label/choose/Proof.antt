@@ -18,8 +18,8 @@ loop-holds c = first (c .before .args .width) (c .before .args .m .now)
 level-at-requires : tie.Need-level-at-requires Inv-loop μ-loop
 level-at-requires c κs = omega arith
 
-standard-due-requires : tie.Need-standard-due-requires Inv-loop μ-loop
-standard-due-requires c κs = c .before .before .before .pre
+text-due-requires : tie.Need-text-due-requires Inv-loop μ-loop
+text-due-requires c κs = c .before .before .before .pre
 
 add-n : tie.Need-add-n Inv-loop μ-loop
 add-n c = omega arith
@@ -28,13 +28,13 @@ loop-less : tie.Need-loop-less Inv-loop μ-loop
 loop-less c = omega arith
 
 loop-again : tie.Need-loop-again Inv-loop μ-loop
-loop-again c = next _ _ _ _ (c .before .before .before .level-at .result) (c .before .before .before .level-at .ensures) (c .before .before .standard-due .ensures) (c .before .before .before .before .loop .inv) (c .before .if1 .left) (c .if2 .left)
+loop-again c = next _ _ _ _ (c .before .before .before .level-at .result) (c .before .before .before .level-at .ensures) (c .before .before .text-due .ensures) (c .before .before .before .before .loop .inv) (c .before .if1 .left) (c .if2 .left)
 
 returns : tie.Need-returns Inv-loop μ-loop
-returns c = fits _ _ _ _ (c .before .before .level-at .result) (c .before .before .level-at .ensures) (c .before .standard-due .ensures) (c .before .before .before .loop .inv) (c .if1 .taken)
+returns c = fits _ _ _ _ (c .before .before .level-at .result) (c .before .before .level-at .ensures) (c .before .text-due .ensures) (c .before .before .before .loop .inv) (c .if1 .taken)
 
 returns-2 : tie.Need-returns-2 Inv-loop μ-loop
-returns-2 c = none _ _ _ _ (c .before .before .before .level-at .result) (c .before .before .before .level-at .ensures) (c .before .before .standard-due .ensures) (c .before .before .before .before .loop .inv) (c .before .if1 .left) (c .if2 .taken)
+returns-2 c = none _ _ _ _ (c .before .before .before .level-at .result) (c .before .before .before .level-at .ensures) (c .before .before .text-due .ensures) (c .before .before .before .before .loop .inv) (c .before .if1 .left) (c .if2 .taken)
 
 pub choose-spec : {M : Type 1} → statement M
 choose-spec =
@@ -44,7 +44,7 @@ choose-spec =
     μ-loop
     loop-holds
     level-at-requires
-    standard-due-requires
+    text-due-requires
     add-n
     loop-less
     loop-again

@@ -1,6 +1,7 @@
 -- `streams::label::label` meets its contract.
 -- Assumes nothing.
 use mathlib.Core.Path.{sym, _∙_}
+use Rattle.streams.proofs.Answers.{said-no, said-yes, breakdown-room}
 use Rattle.streams.proofs.Levels.{label-1, label-6, label-4, label-0}
 use borrow.Author.Needs.{needs}
 use Rattle.streams.proofs.label.label.Statement.{statement}
@@ -25,23 +26,19 @@ refused-requires-2 : tie.Need-refused-requires-2
 refused-requires-2 c κs = search needs
 
 returns-2 : tie.Need-returns-2
-returns-2 c =
-    rw (c .refused2 .ensures)
-    (label-6 _ _ _ (c .before .before .before .before .if1 .left) (sym (c .before .enum-told .given .1) ∙ c .before .before .before .choose .ensures))
+returns-2 c = rw (c .refused2 .ensures) (label-6 _ _ _ (c .before .before .before .before .if1 .left) (sym (c .before .enum-told .given .1) ∙ c .before .before .before .choose .ensures))
 
-standard-due-requires : tie.Need-standard-due-requires
-standard-due-requires c κs = search needs
+text-fits-requires : tie.Need-text-fits-requires
+text-fits-requires c κs = search needs
 
 refused-requires-3 : tie.Need-refused-requires-3
 refused-requires-3 c κs = search needs
 
 returns-3 : tie.Need-returns-3
-returns-3 c =
-    rw (c .refused3 .ensures)
-    (label-4 _ _ _ (c .before .before .before .before .before .before .before .if1 .left) (c .before .before .before .before .level .given .0 .0) (sym (c .before .before .before .before .level .given .1) ∙ c .before .before .before .before .before .before .choose .ensures) _ (c .before .before .standard-due .ensures) (c .before .if2 .taken))
+returns-3 c = rw (c .refused3 .ensures) (label-4 _ _ _ (c .before .before .before .before .before .before .before .if1 .left) _ (sym (c .before .before .before .before .level .given .1) ∙ c .before .before .before .before .before .before .choose .ensures) (said-no (c .before .before .text-fits .ensures) (c .before .if2 .taken)))
 
-put-standard-requires : tie.Need-put-standard-requires
-put-standard-requires c κs = search needs
+put-text-requires : tie.Need-put-text-requires
+put-text-requires c κs = breakdown-room _ _ _ (c .before .before .before .before .before .before .before .if1 .left) (said-yes (c .before .before .text-fits .ensures) (c .before .if2 .left))
 
 level-number-requires : tie.Need-level-number-requires
 level-number-requires c κs = search needs
@@ -50,8 +47,7 @@ same-length : tie.Need-same-length
 same-length c = search needs
 
 returns-4 : tie.Need-returns-4
-returns-4 c =
-    label-0 _ _ _ (c .before .before .before .before .before .before .before .before .before .before .before .if1 .left) (c .before .before .before .before .before .before .before .before .level .given .0 .0) (sym (c .before .before .before .before .before .before .before .before .level .given .1) ∙ c .before .before .before .before .before .before .before .before .before .before .choose .ensures) _ (c .before .before .before .before .before .before .standard-due .ensures) (c .before .before .before .before .before .if2 .left) (c .before .before .before .put-standard .ensures) (c .level-number .ensures)
+returns-4 c = label-0 _ _ _ (c .before .before .before .before .before .before .before .before .before .before .before .if1 .left) _ (sym (c .before .before .before .before .before .before .before .before .level .given .1) ∙ c .before .before .before .before .before .before .before .before .before .before .choose .ensures) (said-yes (c .before .before .before .before .before .before .text-fits .ensures) (c .before .before .before .before .before .if2 .left)) (c .before .before .before .put-text .ensures) (c .level-number .ensures)
 
 pub label-spec : {M : Type 1} → statement M
 label-spec =
@@ -64,10 +60,10 @@ label-spec =
     enum-told
     refused-requires-2
     returns-2
-    standard-due-requires
+    text-fits-requires
     refused-requires-3
     returns-3
-    put-standard-requires
+    put-text-requires
     level-number-requires
     same-length
     returns-4)

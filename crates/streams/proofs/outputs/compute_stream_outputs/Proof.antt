@@ -4,7 +4,8 @@ use mathlib.Core.Path.{sym}
 use lib.Seq.{length-take-le}
 use borrow.Author.Tests.{leb-true}
 use Rattle.measures.proofs.Written.{withinC, withinN}
-use Rattle.streams.proofs.Pass.{said-no, said-yes, no-1, no-2-classes, no-2-lengths, no-4, passed, tokened}
+use Rattle.streams.proofs.Answers.{said-no, said-yes}
+use Rattle.streams.proofs.Pass.{no-1, no-2-classes, no-2-lengths, no-4, passed, tokened}
 use borrow.Author.Needs.{needs}
 use Rattle.streams.proofs.outputs.compute_stream_outputs.Statement.{statement}
 use Rattle.streams.proofs.outputs.compute_stream_outputs.Tie as tie

@@ -1,7 +1,8 @@
 -- `streams::outputs::put_texts` meets its contract: each text has room where the one before it ended.
 -- Assumes nothing.
 use Rattle.rules.specs.declared.BreakdownMode.the-variants as Mode
-use Rattle.streams.proofs.Pass.{room-one, room-others, ended, wrote-one, source, is-sn, is-detailed, is-partial, is-simple, room, six}
+use Rattle.streams.proofs.EndToEnd.{room-one, room-others, ended, wrote-one}
+use Rattle.streams.proofs.Pass.{source, is-sn, is-detailed, is-partial, is-simple, room, six}
 use borrow.Author.Needs.{needs}
 use Rattle.streams.proofs.outputs.put_texts.Statement.{statement}
 use Rattle.streams.proofs.outputs.put_texts.Tie as tie
