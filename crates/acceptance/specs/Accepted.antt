@@ -9,7 +9,8 @@ use lib.ListN.{length}
 use Rattle.number.specs.Questions.{filled, OneText}
 use Rattle.number.specs.declared.Written.{Written}
 use Rattle.rules.specs.Chart.{classes, tokens, class, len, counts}
-use Rattle.rules.specs.Reduced.{Kind, standard}
+use Rattle.rules.specs.declared.Kind.{Kind}
+use Rattle.rules.specs.declared.Kind.the-variants.{Standard as standard}
 use Rattle.rules.specs.Texts.{text, passKinds, endToEnd, lengthsOf}
 use Rattle.rules.specs.Calls.{segments, share, stepAt, afterStep, labelChoice}
 use Rattle.rules.specs.declared.StreamSegment.{StreamSegment}

@@ -12,7 +12,7 @@ use lib.ListN.{replicate}
 use Rattle.number.specs.Questions.{firstNo, OneText}
 use Rattle.number.specs.declared.Written.{Written}
 use Rattle.rules.specs.Chart.{inDomain, noCounts}
-use Rattle.rules.specs.Reduced.{Kind}
+use Rattle.rules.specs.declared.Kind.{Kind}
 use Rattle.rules.specs.declared.StreamSegment.{StreamSegment}
 use Rattle.measures.specs.Answers.{countsAnswer, shareAnswer, alikeAnswer}
 use Rattle.token_view.specs.Promises.{Opening, nthAnswer}
