@@ -1,2 +1,4 @@
 pub mod Same
 pub mod Lines
+pub mod Numbers
+pub mod Cutting
