@@ -8,12 +8,13 @@ use native.Mathlib.Omega.{arith}
 use lib.ListN.{length, drop, getD, length-append}
 use lib.Seq.{drop-cons}
 use Rattle.number.specs.Digits.{digits}
-use Rattle.number.specs.Place.{Room}
+use Rattle.number.specs.Place.{Room, Wrote}
 use Rattle.number.proofs.Digits.{at-most}
+use Rattle.number.proofs.Place.{at-start}
 use Rattle.rules.specs.Bytes.{bytes}
 use Rattle.rules.specs.declared.StreamCounts.{StreamCounts}
 use Rattle.sheet_lines.specs.Sheet.{line, spaced, countsLine}
-use Rattle.sheet_lines.specs.Steps.{Roomy, refusal, led}
+use Rattle.sheet_lines.specs.Steps.{AtStart, Roomy, refusal, led}
 
 -- the next of some numbers, each behind a space
 pub number-chunk : (ns : List ℕ) (i : ℕ) → i < length ns → led (drop i ns) ≡ (bytes " " ++ digits (getD ns i 0)) ++ led (drop (i + 1) ns)
@@ -36,3 +37,9 @@ number-short n h = at-most 10 n (omega arith) (omega arith)
 
 pub refusal-room : {out : List ℕ} (n : ℕ) → Roomy out → n < 2 ^ 32 → Room out 0 (refusal n)
 refusal-room n r h = record { fits = omega (arith, r .most, length-append (digits n) (10 ∷ []), number-short n h) }
+
+-- what is put at the slice's start
+pub started : {old new xs : List ℕ} {r : ℕ} → Room old 0 xs → Wrote old new 0 xs r → AtStart old new xs r
+started {old} {new} {xs} {r} h w =
+    let s = at-start xs old new r (omega (arith, h .fits)) w in
+    record { number = s .0; bytes = s .1 }

@@ -1,16 +1,22 @@
 -- What the functions that put the lines ask and promise.
 -- Assumes nothing.
 use Prim.Native.Nat.{ℕ, _+_, _≤_}
+use mathlib.Core.Path.{_≡_}
 use mathlib.Core.List.{List, [], _∷_, _++_}
 use lib.ListN.{length, take, drop}
 use Rattle.number.specs.Digits.{digits}
-use Rattle.number.specs.Questions.{accepted}
+use Rattle.number.specs.Questions.{accepted, filled}
 use Rattle.number.specs.Place.{Room}
 use Rattle.rules.specs.Bytes.{bytes}
 use Rattle.rules.specs.Chart.{classes, counts}
 use Rattle.rules.specs.declared.StreamCounts.{StreamCounts}
 use Rattle.streams.specs.Promises.{passNo}
 use Rattle.sheet_lines.specs.Sheet.{places, textBytes, totalBytes, firstOf, totalNo, line, countsLine, sheetKinds, textLines}
+
+-- the bytes xs at the slice's start, later places as they were; r is their number
+pub record AtStart (old new xs : List ℕ) (r : ℕ) : Type 0 where
+  pub number : r ≡ length xs
+  pub bytes : new ≡ filled old xs
 
 -- room for the most that `sheet` prints
 pub record Roomy (out : List ℕ) : Type 0 where

@@ -7,8 +7,7 @@ use rules::StreamBreakdownLevel;
 use rules::StreamCounts;
 use streams::outputs::compute_stream_outputs;
 use streams::single::stream_breakdown;
-ghost use Rattle.number.specs.Place.{Wrote};
-ghost use Rattle.sheet_lines.specs.Steps.{NameRoom, LinesRoom, allLines, chartBytes};
+ghost use Rattle.sheet_lines.specs.Steps.{AtStart, NameRoom, LinesRoom, allLines, chartBytes};
 
 // Name, counts, the texts that stand end to end in `texts`, Total.
 fn put_lines(
@@ -20,7 +19,7 @@ fn put_lines(
     total: &[u8],
 ) -> usize
     requires { ⌜ LinesRoom (now out) (now name) counts (now texts) (now lengths) (now total) ⌝ }
-    ensures { λ r. ⌜ Wrote (now (out .entry)) (now (out .exit)) 0 (allLines (now (name .entry)) counts (now (texts .entry)) (now (lengths .entry)) (now (total .entry))) r ⌝ }
+    ensures { λ r. ⌜ AtStart (now (out .entry)) (now (out .exit)) (allLines (now (name .entry)) counts (now (texts .entry)) (now (lengths .entry)) (now (total .entry))) r ⌝ }
 {
     let a = put_line(out, 0, name);
     let b = put_counts(out, a, counts);
@@ -31,7 +30,7 @@ fn put_lines(
 // The questions of the pass, then those of Total.
 pub fn put_chart(name: &[u8], m: &[u32], out: &mut [u8]) -> usize
     requires { ⌜ NameRoom (now name) (now out) ⌝ }
-    ensures { λ r. ⌜ Wrote (now (out .entry)) (now (out .exit)) 0 (chartBytes (now (name .entry)) (now (m .entry))) r ⌝ }
+    ensures { λ r. ⌜ AtStart (now (out .entry)) (now (out .exit)) (chartBytes (now (name .entry)) (now (m .entry))) r ⌝ }
 {
     let mut classes = [0u8; 16384];
     let mut lengths = [0u32; 16384];

@@ -5,9 +5,8 @@ pub mod put;
 use crate::chart::put_chart;
 use crate::put::put_refusal;
 use record::read_chart_record;
-ghost use Rattle.number.specs.Place.{Wrote};
 ghost use Rattle.sheet_lines.specs.Sheet.{Printed, sheetBytes};
-ghost use Rattle.sheet_lines.specs.Steps.{Roomy};
+ghost use Rattle.sheet_lines.specs.Steps.{AtStart, Roomy};
 
 // The bytes to print: the first `length` of `bytes`.
 pub struct Sheet {
@@ -18,7 +17,7 @@ pub struct Sheet {
 // The bytes to print at the start of `out`; their number is answered. Question 13, the record's, those of the chart.
 fn put_sheet(input: &[u8], out: &mut [u8]) -> usize
     requires { ⌜ Roomy (now out) ⌝ }
-    ensures { λ r. ⌜ Wrote (now (out .entry)) (now (out .exit)) 0 (sheetBytes (now (input .entry))) r ⌝ }
+    ensures { λ r. ⌜ AtStart (now (out .entry)) (now (out .exit)) (sheetBytes (now (input .entry))) r ⌝ }
 {
     if 16384 < input.len() {
         return put_refusal(out, 13);

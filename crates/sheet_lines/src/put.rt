@@ -6,7 +6,7 @@ ghost use mathlib.Core.List.{_++_};
 ghost use Rattle.number.specs.Digits.{digits};
 ghost use Rattle.rules.specs.Bytes.{bytes};
 ghost use Rattle.sheet_lines.specs.Sheet.{line, countsLine};
-ghost use Rattle.sheet_lines.specs.Steps.{Roomy, refusal, led, cutLines, Cuts};
+ghost use Rattle.sheet_lines.specs.Steps.{AtStart, Roomy, refusal, led, cutLines, Cuts};
 
 fn put_bytes(out: &mut [u8], at: usize, text: &[u8]) -> usize
     requires { ⌜ Room (now out) at (now text) ⌝ }
@@ -88,7 +88,7 @@ pub fn put_texts(out: &mut [u8], at: usize, texts: &[u8], lengths: &[usize]) -> 
 // The only line of a refusal.
 pub fn put_refusal(out: &mut [u8], number: u32) -> usize
     requires { ⌜ Roomy (now out) ⌝ }
-    ensures { λ r. ⌜ Wrote (now (out .entry)) (now (out .exit)) 0 (refusal number) r ⌝ }
+    ensures { λ r. ⌜ AtStart (now (out .entry)) (now (out .exit)) (refusal number) r ⌝ }
 {
     let a = put_bytes(out, 0, b"refused ");
     let b = put_u64(out, a, number as u64);

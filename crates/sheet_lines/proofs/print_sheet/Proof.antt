@@ -4,9 +4,6 @@ use borrow.Author.Needs.{needs}
 use borrow.Author.Needs.{needs}
 use Rattle.sheet_lines.proofs.print_sheet.Statement.{statement}
 use Rattle.sheet_lines.proofs.print_sheet.Tie as tie
-use Rattle.sheet_lines.proofs.print_sheet.Reads as reads
-use Rattle.sheet_lines.proofs.print_sheet.Lts as lts
-use Rattle.sheet_lines.proofs.put_sheet.Reads as put-sheet-reads
 
 slice-aggregate-put-sheet : tie.Need-slice-aggregate-put-sheet
 slice-aggregate-put-sheet c = search needs
@@ -15,7 +12,7 @@ put-sheet-requires : tie.Need-put-sheet-requires
 put-sheet-requires c κs = search needs
 
 returns : tie.Need-returns
-returns c = search needs
+returns c = record { answer = rw (c .before .put-sheet .ensures .number, c .before .put-sheet .ensures .bytes) }
 
 pub print-sheet-spec : {M : Type 1} → statement M
 print-sheet-spec = tie.close (tie.spec slice-aggregate-put-sheet put-sheet-requires returns)

@@ -5,7 +5,7 @@ use native.Mathlib.Omega.{arith}
 use Rattle.number.specs.Digits.{digits}
 use Rattle.rules.specs.Bytes.{bytes}
 use Rattle.number.proofs.Place.{room-first, room-next, wrote}
-use Rattle.sheet_lines.proofs.Numbers.{refusal-room}
+use Rattle.sheet_lines.proofs.Numbers.{refusal-room, started}
 use borrow.Author.Needs.{needs}
 use borrow.Author.Needs.{needs}
 use Rattle.sheet_lines.proofs.put.put_refusal.Statement.{statement}
@@ -38,7 +38,10 @@ same-length : tie.Need-same-length
 same-length c = search needs
 
 returns : tie.Need-returns
-returns c = wrote (bytes "refused ") _ (c .before .before .before .before .before .before .before .before .before .before .before .put-bytes .ensures) (wrote _ _ (c .before .before .before .before .before .before .before .put-u64 .ensures) (c .before .before .put-bytes2 .ensures))
+returns c =
+    let s = c .before .before .before .before .before .before .before .before .before .before .before .before .before .before .before in
+    let w = wrote (bytes "refused ") _ (c .before .before .before .before .before .before .before .before .before .before .before .put-bytes .ensures) (wrote _ _ (c .before .before .before .before .before .before .before .put-u64 .ensures) (c .before .before .put-bytes2 .ensures)) in
+    started (refusal-room (s .args .number) (s .pre) (omega arith)) w
 
 pub put-refusal-spec : {M : Type 1} → statement M
 put-refusal-spec =
