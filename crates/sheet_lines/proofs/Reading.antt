@@ -4,7 +4,7 @@ use Prim.Native.Nat.{ℕ, _+_, _-_, _≤_, _<_}
 use mathlib.Core.Path.{_≡_, sym, ap, _∙_}
 use mathlib.Core.List.{List, [], _∷_}
 use native.Mathlib.Omega.{arith}
-use lib.ListN.{length, take, drop, length-append}
+use lib.ListN.{length, take, drop, replicate, length-append}
 use lib.Seq.{take-at}
 use borrow.Author.Tests.{le-leb, lt-leb}
 use Rattle.number.specs.Questions.{filled}
@@ -13,7 +13,8 @@ use Rattle.record.specs.Promises.{ReadRecord}
 use Rattle.record.specs.declared.RecordAnswer.{RecordAnswer}
 use Rattle.record.proofs.Name.{name-at, named}
 use Rattle.streams.specs.Promises.{passNo}
-use Rattle.sheet_lines.specs.Sheet.{places, textBytes, totalBytes, totalNo, chartOf, sheetNo, sheetBytes}
+use Rattle.sheet_lines.specs.Sheet.{places, textBytes, totalBytes, totalNo, chartOf, sheetNo, sheetBytes, Printed}
+use Rattle.sheet_lines.specs.declared.Sheet.{Sheet}
 use Rattle.sheet_lines.specs.Steps.{AtStart, Roomy, NameRoom, refusal, chartNo, chartBytes}
 use Rattle.sheet_lines.proofs.Charted.{first-no, refused-by}
 
@@ -85,3 +86,10 @@ module _ {input new : List ℕ} {r : RecordAnswer} (p : ReadRecord input places 
 
     pub sheet-printed : length input ≤ 16384 → {out out′ : List ℕ} {s : ℕ} → AtStart out out′ (chartBytes nameRead (take (r .measures) new)) s → AtStart out out′ (sheetBytes input) s
     sheet-printed short h = rw (sheet-chart short) (rw (name-is, chart-is) at h)
+
+-- the bytes to print are bytes of the array
+pub sheet-within : {input : List ℕ} {r : Sheet} → Printed input r → r .length ≤ length (r .bytes)
+sheet-within {input} {r} p =
+    let xs = sheetBytes input in
+    let old = replicate {A = ℕ} 66048 0 in
+    omega (arith, ap (λ (s : Sheet). s .length) (p .answer), ap (λ (s : Sheet). length (s .bytes)) (p .answer), length-append xs (drop (length xs) old))

@@ -14,13 +14,13 @@ put-counts-requires : tie.Need-put-counts-requires
 put-counts-requires c κs = room-first _ _ (room-next _ _ (c .before .before .before .put-line .ensures) (c .before .before .before .before .before .before .before .before .before .before .pre .room))
 
 put-texts-requires : tie.Need-put-texts-requires
-put-texts-requires c κs = 
+put-texts-requires c κs =
     let s = c .before .before .before .before .before .before .before .before .before .before .before .before .before .before in
     let rest = room-next _ _ (c .before .before .before .put-counts .ensures) (room-next _ _ (c .before .before .before .before .before .before .before .put-line .ensures) (s .pre .room)) in
     record { within = s .pre .within; room = room-first _ _ rest }
 
 put-line-requires-2 : tie.Need-put-line-requires-2
-put-line-requires-2 c κs = 
+put-line-requires-2 c κs =
     let rest = room-next _ _ (c .before .before .before .before .before .before .before .put-counts .ensures) (room-next _ _ (c .before .before .before .before .before .before .before .before .before .before .before .put-line .ensures) (c .before .before .before .before .before .before .before .before .before .before .before .before .before .before .before .before .before .before .pre .room)) in
     room-next _ _ (c .before .before .before .put-texts .ensures) rest
 
@@ -28,7 +28,7 @@ same-length : tie.Need-same-length
 same-length c = search needs
 
 returns : tie.Need-returns
-returns c = 
+returns c =
     let w = wrote _ _ (c .before .before .before .before .before .before .put-texts .ensures) (c .before .before .put-line2 .ensures) in
     started (c .before .before .before .before .before .before .before .before .before .before .before .before .before .before .before .before .before .before .before .before .before .pre .room) (wrote _ _ (c .before .before .before .before .before .before .before .before .before .before .before .before .before .before .put-line .ensures) (wrote _ _ (c .before .before .before .before .before .before .before .before .before .before .put-counts .ensures) w))
 

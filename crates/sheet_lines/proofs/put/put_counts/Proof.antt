@@ -13,7 +13,7 @@ cast-put-u64 : tie.Need-cast-put-u64
 cast-put-u64 c = search needs
 
 put-u64-requires : tie.Need-put-u64-requires
-put-u64-requires c κs = 
+put-u64-requires c κs =
     let s = c .before .before .before in
     room-first _ _ (rw (counts-parts (s .args .counts)) at (s .pre))
 
@@ -21,7 +21,7 @@ slice-aggregate-put-numbers : tie.Need-slice-aggregate-put-numbers
 slice-aggregate-put-numbers c = search needs
 
 put-numbers-requires : tie.Need-put-numbers-requires
-put-numbers-requires c κs = 
+put-numbers-requires c κs =
     let s = c .before .before .before .before .before .before .before .before in
     room-first (led (others (s .args .counts))) (10 ∷ []) (room-next _ _ (c .before .before .before .before .put-u64 .ensures) (rw (counts-parts (s .args .counts)) at (s .pre)))
 
@@ -29,7 +29,7 @@ slice-aggregate-put-bytes : tie.Need-slice-aggregate-put-bytes
 slice-aggregate-put-bytes c = search needs
 
 put-bytes-requires : tie.Need-put-bytes-requires
-put-bytes-requires c κs = 
+put-bytes-requires c κs =
     let s = c .before .before .before .before .before .before .before .before .before .before .before .before .before in
     let rest = room-next _ _ (c .before .before .before .before .before .before .before .before .before .put-u64 .ensures) (rw (counts-parts (s .args .counts)) at (s .pre)) in
     room-next (led (others (s .args .counts))) (10 ∷ []) (c .before .before .before .before .put-numbers .ensures) rest
@@ -38,7 +38,7 @@ same-length : tie.Need-same-length
 same-length c = search needs
 
 returns : tie.Need-returns
-returns c = 
+returns c =
     let counts = c .before .before .before .before .before .before .before .before .before .before .before .before .before .before .before .before .args .counts in
     rw (counts-parts counts) (wrote _ _ (c .before .before .before .before .before .before .before .before .before .before .before .before .put-u64 .ensures) (wrote (led (others counts)) (10 ∷ []) (c .before .before .before .before .before .before .before .put-numbers .ensures) (c .before .before .put-bytes .ensures)))
 

@@ -27,7 +27,7 @@ shared-slice-read-put-spaced : tie.Need-shared-slice-read-put-spaced Inv-loop μ
 shared-slice-read-put-spaced c = search needs
 
 put-spaced-requires : tie.Need-put-spaced-requires Inv-loop μ-loop
-put-spaced-requires c κs = 
+put-spaced-requires c κs =
     let l = c .before .before .before .loop in
     room _ _ _ (l .inv .2) _ (l .i + 1) (number-chunk _ (l .i) (c .before .before .loop-test .taken)) (l .inv .1)
 
@@ -38,7 +38,7 @@ loop-less : tie.Need-loop-less Inv-loop μ-loop
 loop-less c = search needs
 
 loop-again : tie.Need-loop-again Inv-loop μ-loop
-loop-again c = 
+loop-again c =
     let l = c .before .before .before .before .before .before .loop in
     (search needs, l .inv .1, step _ _ _ (l .inv .2) _ (l .i + 1) (number-chunk _ (l .i) (c .before .before .before .before .before .loop-test .taken)) (c .before .before .put-spaced .ensures))
 

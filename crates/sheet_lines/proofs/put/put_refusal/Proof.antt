@@ -20,7 +20,7 @@ put-bytes-requires : tie.Need-put-bytes-requires
 put-bytes-requires c κs = search needs
 
 put-u64-requires : tie.Need-put-u64-requires
-put-u64-requires c κs = 
+put-u64-requires c κs =
     let s = c .before .before .before .before .before .before .before in
     let all = room-next (bytes "refused ") (digits (s .args .number) ++ (10 ∷ [])) (c .before .before .before .put-bytes .ensures) (refusal-room (s .args .number) (s .pre) (omega arith)) in
     room-first _ (10 ∷ []) all
@@ -29,7 +29,7 @@ slice-aggregate-put-bytes-2 : tie.Need-slice-aggregate-put-bytes-2
 slice-aggregate-put-bytes-2 c = search needs
 
 put-bytes-requires-2 : tie.Need-put-bytes-requires-2
-put-bytes-requires-2 c κs = 
+put-bytes-requires-2 c κs =
     let s = c .before .before .before .before .before .before .before .before .before .before .before .before in
     let all = room-next (bytes "refused ") (digits (s .args .number) ++ (10 ∷ [])) (c .before .before .before .before .before .before .before .before .put-bytes .ensures) (refusal-room (s .args .number) (s .pre) (omega arith)) in
     room-next _ (10 ∷ []) (c .before .before .before .before .put-u64 .ensures) all
