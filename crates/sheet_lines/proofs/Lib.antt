@@ -1,2 +1,7 @@
 pub mod Same
 pub mod Lines
+pub mod Numbers
+pub mod Cutting
+pub mod Bound
+pub mod Charted
+pub mod Reading

@@ -1,0 +1,44 @@
+-- `sheet_lines::chart::put_lines` meets its contract.
+-- Assumes nothing.
+use Rattle.number.proofs.Place.{room-first, room-next, wrote}
+use Rattle.sheet_lines.proofs.Numbers.{started}
+use borrow.Author.Needs.{needs}
+use borrow.Author.Needs.{needs}
+use Rattle.sheet_lines.proofs.chart.put_lines.Statement.{statement}
+use Rattle.sheet_lines.proofs.chart.put_lines.Tie as tie
+
+put-line-requires : tie.Need-put-line-requires
+put-line-requires c κs = room-first _ _ (c .before .before .before .before .before .before .pre .room)
+
+put-counts-requires : tie.Need-put-counts-requires
+put-counts-requires c κs = room-first _ _ (room-next _ _ (c .before .before .before .put-line .ensures) (c .before .before .before .before .before .before .before .before .before .before .pre .room))
+
+put-texts-requires : tie.Need-put-texts-requires
+put-texts-requires c κs =
+    let s = c .before .before .before .before .before .before .before .before .before .before .before .before .before .before in
+    let rest = room-next _ _ (c .before .before .before .put-counts .ensures) (room-next _ _ (c .before .before .before .before .before .before .before .put-line .ensures) (s .pre .room)) in
+    record { within = s .pre .within; room = room-first _ _ rest }
+
+put-line-requires-2 : tie.Need-put-line-requires-2
+put-line-requires-2 c κs =
+    let rest = room-next _ _ (c .before .before .before .before .before .before .before .put-counts .ensures) (room-next _ _ (c .before .before .before .before .before .before .before .before .before .before .before .put-line .ensures) (c .before .before .before .before .before .before .before .before .before .before .before .before .before .before .before .before .before .before .pre .room)) in
+    room-next _ _ (c .before .before .before .put-texts .ensures) rest
+
+same-length : tie.Need-same-length
+same-length c = search needs
+
+returns : tie.Need-returns
+returns c =
+    let w = wrote _ _ (c .before .before .before .before .before .before .put-texts .ensures) (c .before .before .put-line2 .ensures) in
+    started (c .before .before .before .before .before .before .before .before .before .before .before .before .before .before .before .before .before .before .before .before .before .pre .room) (wrote _ _ (c .before .before .before .before .before .before .before .before .before .before .before .before .before .before .put-line .ensures) (wrote _ _ (c .before .before .before .before .before .before .before .before .before .before .put-counts .ensures) w))
+
+pub put-lines-spec : {M : Type 1} → statement M
+put-lines-spec =
+    tie.close
+    (tie.spec
+    put-line-requires
+    put-counts-requires
+    put-texts-requires
+    put-line-requires-2
+    same-length
+    returns)

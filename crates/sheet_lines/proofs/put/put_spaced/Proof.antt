@@ -1,0 +1,32 @@
+-- `sheet_lines::put::put_spaced` meets its contract.
+-- Assumes nothing.
+use mathlib.Core.List.{_++_}
+use Rattle.number.specs.Digits.{digits}
+use Rattle.rules.specs.Bytes.{bytes}
+use Rattle.number.proofs.Place.{room-first, room-next, wrote}
+use borrow.Author.Needs.{needs}
+use borrow.Author.Needs.{needs}
+use Rattle.sheet_lines.proofs.put.put_spaced.Statement.{statement}
+use Rattle.sheet_lines.proofs.put.put_spaced.Tie as tie
+use Rattle.number.proofs.put_u64.Reads as put-u64-reads
+use Rattle.sheet_lines.proofs.put.put_bytes.Reads as put-bytes-reads
+
+slice-aggregate-put-bytes : tie.Need-slice-aggregate-put-bytes
+slice-aggregate-put-bytes c = search needs
+
+put-bytes-requires : tie.Need-put-bytes-requires
+put-bytes-requires c κs = room-first (bytes " ") (digits (c .before .before .before .args .n)) (c .before .before .before .pre)
+
+put-u64-requires : tie.Need-put-u64-requires
+put-u64-requires c κs = room-next (bytes " ") (digits (c .before .before .before .before .before .before .before .args .n)) (c .before .before .before .put-bytes .ensures) (c .before .before .before .before .before .before .before .pre)
+
+same-length : tie.Need-same-length
+same-length c = search needs
+
+returns : tie.Need-returns
+returns c = wrote (bytes " ") _ (c .before .before .before .before .before .before .put-bytes .ensures) (c .before .before .put-u64 .ensures)
+
+pub put-spaced-spec : {M : Type 1} → statement M
+put-spaced-spec =
+    tie.close
+    (tie.spec slice-aggregate-put-bytes put-bytes-requires put-u64-requires same-length returns)

@@ -1,0 +1,96 @@
+// Lines, each put at a place and ended by 0A; the next place is answered.
+use number::put_u64;
+use rules::StreamCounts;
+ghost use Rattle.number.specs.Place.{Room, Wrote};
+ghost use mathlib.Core.List.{_++_};
+ghost use Rattle.number.specs.Digits.{digits};
+ghost use Rattle.rules.specs.Bytes.{bytes};
+ghost use Rattle.sheet_lines.specs.Sheet.{line, countsLine};
+ghost use Rattle.sheet_lines.specs.Steps.{AtStart, Roomy, refusal, led, cutLines, Cuts};
+
+fn put_bytes(out: &mut [u8], at: usize, text: &[u8]) -> usize
+    requires { ⌜ Room (now out) at (now text) ⌝ }
+    ensures { λ r. ⌜ Wrote (now (out .entry)) (now (out .exit)) at (now (text .entry)) r ⌝ }
+{
+    let mut i: usize = 0;
+    while i < text.len() {
+        out[at + i] = text[i];
+        i += 1;
+    }
+    at + i
+}
+
+pub fn put_line(out: &mut [u8], at: usize, text: &[u8]) -> usize
+    requires { ⌜ Room (now out) at (line (now text)) ⌝ }
+    ensures { λ r. ⌜ Wrote (now (out .entry)) (now (out .exit)) at (line (now (text .entry))) r ⌝ }
+{
+    let end = put_bytes(out, at, text);
+    put_bytes(out, end, b"\n")
+}
+
+// A number behind a space.
+fn put_spaced(out: &mut [u8], at: usize, n: u32) -> usize
+    requires { ⌜ Room (now out) at (bytes " " ++ digits n) ⌝ }
+    ensures { λ r. ⌜ Wrote (now (out .entry)) (now (out .exit)) at (bytes " " ++ digits n) r ⌝ }
+{
+    let a = put_bytes(out, at, b" ");
+    put_u64(out, a, n as u64)
+}
+
+// Numbers, each behind a space.
+fn put_numbers(out: &mut [u8], at: usize, numbers: &[u32]) -> usize
+    requires { ⌜ Room (now out) at (led (now numbers)) ⌝ }
+    ensures { λ r. ⌜ Wrote (now (out .entry)) (now (out .exit)) at (led (now (numbers .entry))) r ⌝ }
+{
+    let mut place = at;
+    let mut i: usize = 0;
+    while i < numbers.len() {
+        place = put_spaced(out, place, numbers[i]);
+        i += 1;
+    }
+    place
+}
+
+// The line of the counts.
+pub fn put_counts(out: &mut [u8], at: usize, counts: StreamCounts) -> usize
+    requires { ⌜ Room (now out) at (line (countsLine counts)) ⌝ }
+    ensures { λ r. ⌜ Wrote (now (out .entry)) (now (out .exit)) at (line (countsLine counts)) r ⌝ }
+{
+    let others = [
+        counts.run20_streams,
+        counts.run24_streams,
+        counts.run32_streams,
+        counts.total_breaks,
+        counts.sn_breaks,
+    ];
+    let a = put_u64(out, at, counts.run16_streams as u64);
+    let b = put_numbers(out, a, &others);
+    put_bytes(out, b, b"\n")
+}
+
+// A line for each of the texts that stand end to end in `texts`.
+pub fn put_texts(out: &mut [u8], at: usize, texts: &[u8], lengths: &[usize]) -> usize
+    requires { ⌜ Cuts (now out) at (now texts) (now lengths) ⌝ }
+    ensures { λ r. ⌜ Wrote (now (out .entry)) (now (out .exit)) at (cutLines (now (texts .entry)) 0 (now (lengths .entry))) r ⌝ }
+{
+    let mut place = at;
+    let mut start: usize = 0;
+    let mut i: usize = 0;
+    while i < lengths.len() {
+        let end = start + lengths[i];
+        place = put_line(out, place, &texts[start..end]);
+        start = end;
+        i += 1;
+    }
+    place
+}
+
+// The only line of a refusal.
+pub fn put_refusal(out: &mut [u8], number: u32) -> usize
+    requires { ⌜ Roomy (now out) ⌝ }
+    ensures { λ r. ⌜ AtStart (now (out .entry)) (now (out .exit)) (refusal number) r ⌝ }
+{
+    let a = put_bytes(out, 0, b"refused ");
+    let b = put_u64(out, a, number as u64);
+    put_bytes(out, b, b"\n")
+}

@@ -1,0 +1,200 @@
+#!/usr/bin/env python3
+"""Makes the input and the expected output of the program sheet_cases, from docs/01-scope.md alone.
+
+Run in the repository's root: python3 tools/sheet_cases.py
+It writes crates/sheet_cases/stdin (each record behind its length in three bytes) and crates/sheet_cases/stdout.
+"""
+from itertools import groupby, product
+
+
+# One chart, by the rules of document 01. A token is [class, length, starred].
+
+def class_of(density):
+    return sum(density >= low for low in (16, 20, 24, 32))
+
+
+def runs(classes):
+    return [[c, len(list(g)), False] for c, g in groupby(classes)]
+
+
+def active(classes):
+    places = [i for i, c in enumerate(classes) if c]
+    return classes[places[0]:places[-1] + 1] if places else []
+
+
+def counts(classes):
+    part = active(classes)
+    total = sum(n for c, n, _ in runs(classes) if c == 0 and n >= 2) if part else 0
+    return [classes.count(k) for k in (1, 2, 3, 4)] + [total, part.count(0)]
+
+
+def joined(tokens, most):
+    """Runs of one class over a break of at most `most` join, lengths and gap added, starred."""
+    out = []
+    for token in tokens:
+        if len(out) >= 2 and out[-1][0] == 0 and out[-1][1] <= most and token[0] == out[-2][0]:
+            gap = out.pop()
+            out[-1] = [token[0], out[-1][1] + gap[1] + token[1], True]
+        else:
+            out.append(list(token))
+    return out
+
+
+def absorbed(tokens):
+    """A gap of 2 to 4 before a different class is added to the earlier run, which is starred."""
+    out = []
+    for token in tokens:
+        if out and token[0] == 0 and 2 <= token[1] <= 4:
+            out[-1] = [out[-1][0], out[-1][1] + token[1], True]
+        else:
+            out.append(list(token))
+    return out
+
+
+def sign(length, bar):
+    return "-" if length <= 4 else "|" if length >= bar else "/"
+
+
+def sn_text(tokens, show_break):
+    words = []
+    for c, n, starred in tokens:
+        if c == 0:
+            if n > 1:
+                words.append(show_break(n))
+        else:
+            mark = ["", "~", "\\", "="][c - 1]
+            words.append(f"{mark}{n}{mark}" + "*" * starred)
+    return " ".join(words)
+
+
+def standard_text(pieces, show_gap):
+    if not pieces:
+        return "No Streams!"
+    return "".join(show_gap(n) if c == 0 else str(n) + "*" * starred for c, n, starred in pieces)
+
+
+def texts(classes):
+    """The six texts of the pass, and Total."""
+    part = active(classes)
+    tokens = runs(part)
+    pieces = runs([min(c, 1) for c in part])
+
+    def standard_sign(n):
+        return sign(n, 32).replace("|", " | ")
+
+    streams = sum(c > 0 for c in part)
+    return [
+        sn_text(tokens, lambda n: f"({n})"),
+        sn_text(joined(tokens, 1), lambda n: sign(n, 33)),
+        sn_text(absorbed(joined(tokens, 4)), lambda n: sign(n, 33)),
+        standard_text(pieces, lambda n: "-" if n == 1 else f" ({n}) "),
+        standard_text(pieces, standard_sign),
+        standard_text(joined(pieces, 1), standard_sign),
+        f"{streams} Total" if streams else "No Streams!",
+    ]
+
+
+# A record, and what `sheet` prints for it.
+
+def read(record):
+    """The number of the first no to the record's fields, 0 if there is none; the name; the densities."""
+    name, densities, at = b"", b"", 0
+    if not record:
+        return 10, name, densities
+    while at < len(record):
+        first = at == 0
+        if len(record) - at < 3:
+            return 8, name, densities
+        tag, size = record[at], 256 * record[at + 1] + record[at + 2]
+        payload = record[at + 3:at + 3 + size]
+        if len(payload) < size:
+            return 8, name, densities
+        if tag not in (1, 2):
+            return 9, name, densities
+        if (tag == 1) != first:
+            return 10, name, densities
+        if tag == 1:
+            if not (1 <= size <= 64 and all(0x20 <= b <= 0x7E for b in payload)):
+                return 11, name, densities
+            name = payload
+        else:
+            densities += payload
+        at += 3 + size
+    return 0, name, densities
+
+
+def sheet(record):
+    refused = 13 if len(record) > 16384 else 0
+    if not refused:
+        refused, name, densities = read(record)
+    if not refused and len(densities) > 16384:
+        refused = 12
+    if not refused:
+        classes = [class_of(d) for d in densities]
+        lines = texts(classes)
+        if len(runs(active(classes))) > 16384:
+            refused = 2
+        elif sum(map(len, lines[:6])) > 65536 or len(lines[6]) > 32:
+            refused = 4
+    if refused:
+        return f"refused {refused}\n".encode()
+    return b"".join(line + b"\n" for line in [name, " ".join(map(str, counts(classes))).encode()] + [t.encode() for t in lines])
+
+
+# The cases.
+
+def field(tag, payload):
+    return bytes([tag, len(payload) // 256, len(payload) % 256]) + bytes(payload)
+
+
+def chart(densities, name=b"A"):
+    return field(1, name) + field(2, densities)
+
+
+def six_length(densities):
+    return sum(map(len, texts([class_of(d) for d in densities])[:6]))
+
+
+def long_chart(length):
+    """A chart whose six texts have so many bytes: classes 2 and 3 in turn, then a short end that makes it exact."""
+    for size in range(6):
+        for end in product((0, 16, 20, 24), repeat=size):
+            for n in (5456, 5458, 5460):
+                densities = bytes([20, 24] * (n // 2)) + bytes(end)
+                if six_length(densities) == length:
+                    return densities
+    raise SystemExit(f"no chart of {length} bytes found")
+
+
+CASE_12 = bytes.fromhex("10 10 00 14 14 00 00 00 10")
+
+RECORDS = [
+    b"",                                                  # no field at all
+    b"\x01", b"\x01\x00",                                 # a cut head
+    chart(CASE_12) + b"\x02", chart(CASE_12) + b"\x02\x00",
+    b"\x01\x00\x02A", chart(CASE_12)[:-1],                # a cut payload
+    field(3, b"A"), field(1, b"A") + field(0, b""),       # an unknown tag, whole
+    field(3, b"AB")[:-1], field(1, b"A") + b"\xff\x00",   # and cut
+    field(1, b"A") + chart(CASE_12),                      # two names
+    field(2, CASE_12) + field(1, b"A"),                   # a name second
+    chart(CASE_12, b""), chart(CASE_12, b"n" * 64), chart(CASE_12, b"n" * 65),
+    chart(CASE_12, b"\x1f"), chart(CASE_12, b"\x20"), chart(CASE_12, b"\x7e"), chart(CASE_12, b"\x7f"),
+    field(1, b"A"), chart(b""),                           # no density, and a field of none
+    chart(CASE_12),                                       # case 12 in one field ..
+    field(1, b"A") + b"".join(field(2, [d]) for d in CASE_12),  # .. and in many
+    chart(bytes([0, 16, 0, 0, 32, 255])),
+    chart(bytes([16] * (16384 - 7))), chart(bytes([16] * (16385 - 7))),  # 16,384 and 16,385 bytes
+    chart(long_chart(65536)), chart(long_chart(65537)),
+]
+
+
+def main():
+    with open("crates/sheet_cases/stdin", "wb") as out:
+        for record in RECORDS:
+            out.write(len(record).to_bytes(3, "big") + record)
+    with open("crates/sheet_cases/stdout", "wb") as out:
+        for record in RECORDS:
+            out.write(sheet(record))
+
+
+main()
