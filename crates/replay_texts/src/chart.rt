@@ -57,7 +57,14 @@ fn print_texts(m: &[u32], texts: &[u8], lengths: &[usize; 6], space: &mut [u8]) 
 }
 
 // Three texts, the first at the place `at`; the place behind the third is answered.
-fn print_three(m: &[u32], first: usize, texts: &[u8], at: usize, lengths: &[usize; 6], space: &mut [u8]) -> usize
+fn print_three(
+    m: &[u32],
+    first: usize,
+    texts: &[u8],
+    at: usize,
+    lengths: &[usize; 6],
+    space: &mut [u8],
+) -> usize
     requires { ⌜ (first ≤ 3) × Within (now texts) at ⌝ }
     ensures { λ r. ⌜ From (now (texts .entry)) at r ⌝ }
 {

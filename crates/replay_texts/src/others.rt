@@ -62,7 +62,13 @@ fn three(m: &[u32], first: usize, out: &mut [u8]) -> ThreeWritten {
 }
 
 // Does the call for three texts, the first of them in the place `first` of the pass, write those of the pass?
-fn three_agree(m: &[u32], first: usize, texts: &[u8], lengths: &[usize; 6], space: &mut [u8]) -> bool
+fn three_agree(
+    m: &[u32],
+    first: usize,
+    texts: &[u8],
+    lengths: &[usize; 6],
+    space: &mut [u8],
+) -> bool
     requires { ⌜ first ≤ 3 ⌝ }
 {
     let length = texts.len();

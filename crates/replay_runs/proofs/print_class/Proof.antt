@@ -1,9 +1,6 @@
--- `replay_runs:print_class` is safe and ends.
+-- `replay_runs::print_class` is safe and ends.
 -- Assumes nothing.
-use Prim.Native.Nat.{_-_, _≤_}
-use mathlib.Core.Path.{_≡_}
-use native.Mathlib.Omega.{arith}
-use lib.ListN.{length, length-set}
+use Prim.Native.Nat.{_-_}
 use borrow.Author.Needs.{needs}
 use Rattle.replay_runs.proofs.print_class.Statement.{statement}
 use Rattle.replay_runs.proofs.print_class.Tie as tie

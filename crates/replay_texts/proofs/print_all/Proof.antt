@@ -1,9 +1,9 @@
--- `replay_texts:print_all` is safe and ends.
+-- `replay_texts::print_all` is safe and ends.
 -- Assumes nothing.
-use Prim.Native.Nat.{_+_, _-_, _≤_}
+use Prim.Native.Nat.{_-_}
 use mathlib.Core.Path.{_≡_}
 use native.Mathlib.Omega.{arith}
-use lib.ListN.{length, length-set}
+use lib.ListN.{length}
 use borrow.Author.Needs.{needs}
 use Rattle.replay_texts.proofs.print_all.Statement.{statement}
 use Rattle.replay_texts.proofs.print_all.Tie as tie

@@ -1,9 +1,8 @@
--- `replay_texts:chart/print_three` is safe and ends.
+-- `replay_texts::chart::print_three` is safe and ends.
 -- Assumes nothing.
 use Prim.Native.Nat.{_+_, _-_, _≤_}
 use mathlib.Core.Path.{_≡_}
-use native.Mathlib.Omega.{arith}
-use lib.ListN.{length, length-set}
+use lib.ListN.{length}
 use borrow.Author.Needs.{needs}
 use Rattle.replay_texts.proofs.chart.print_three.Statement.{statement}
 use Rattle.replay_texts.proofs.chart.print_three.Tie as tie
