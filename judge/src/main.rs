@@ -19,7 +19,7 @@ usage: judge numbers           numbers at every change of length
        judge charts measures   the chart list for `judge measures`
        judge charts texts      the chart list for `judge texts`
        judge measures < LIST   counts, tokens, segments, share, alike
-       judge texts < LIST      the seven texts
+       judge texts < LIST      counts, number of tokens, the seven texts
        judge runs              run symbols
 ";
 

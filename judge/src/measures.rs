@@ -33,7 +33,7 @@ fn line_of(measures: &[usize], alike: bool) -> Result<String, String> {
         return Err("the original has two answers for the tokens".into());
     }
     let fields = [
-        shown_counts(&counts),
+        format!("counts {}", six_numbers(&counts)),
         format!("active {start} {length}"),
         word_and_list("tokens", &tokens),
         word_and_list("all", &shown_tokens(&streams::all_tokens(measures))),
@@ -52,9 +52,10 @@ fn active_part(measures: &[usize]) -> (usize, usize) {
     }
 }
 
-fn shown_counts(counts: &StreamCounts) -> String {
+/// The six counts, in the original's order.
+pub fn six_numbers(counts: &StreamCounts) -> String {
     format!(
-        "counts {} {} {} {} {} {}",
+        "{} {} {} {} {} {}",
         counts.run16_streams,
         counts.run20_streams,
         counts.run24_streams,

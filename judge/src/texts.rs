@@ -1,9 +1,11 @@
-//! `judge texts`: the seven texts of each chart of a list.
+//! `judge texts`: counts, number of tokens and the seven texts of each chart of
+//! a list.
 
 use crate::list;
+use crate::measures::six_numbers;
 use crate::streams::{
-    compute_stream_counts, compute_stream_outputs, generate_breakdown, generate_breakdowns,
-    stream_breakdown, stream_breakdowns, BreakdownMode, StreamBreakdownLevel,
+    compute_stream_counts, compute_stream_outputs, counts_and_tokens, generate_breakdown,
+    generate_breakdowns, stream_breakdown, stream_breakdowns, BreakdownMode, StreamBreakdownLevel,
 };
 
 /// SN detailed, partial, simplified, standard detailed, partial, simple.
@@ -14,7 +16,12 @@ pub fn print(list: &str) -> Result<String, String> {
     for chart in list::read(list)? {
         let texts =
             six_texts(&chart.measures).map_err(|message| format!("{message}: {}", chart.line))?;
+        let (counts, tokens) = counts_and_tokens(&chart.measures);
         push_line(&mut out, &format!("chart {}", chart.line));
+        push_line(
+            &mut out,
+            &format!("{} {}", six_numbers(&counts), tokens.len()),
+        );
         for text in &texts {
             push_line(&mut out, text);
         }
@@ -32,8 +39,8 @@ fn push_line(out: &mut String, line: &str) {
 /// The texts of the pass, if every other way gives the same.
 fn six_texts(measures: &[usize]) -> Result<SixTexts, String> {
     let (counts, sn, standard) = compute_stream_outputs(measures);
-    if counts != compute_stream_counts(measures) {
-        return Err("the pass and compute_stream_counts differ".into());
+    if counts != compute_stream_counts(measures) || counts != counts_and_tokens(measures).0 {
+        return Err("the original counts in two ways".into());
     }
     let texts = six(sn, standard);
     if texts != six(generate_breakdowns(measures), stream_breakdowns(measures)) {
