@@ -12,7 +12,7 @@ use Rattle.number.proofs.Each.{Each, none, _&_}
 use Rattle.number.proofs.Split.{split}
 use Rattle.rules.specs.Bytes.{bytes}
 use Rattle.rules.specs.Chart.{classOf, classes, Token, token, runs, active, count, streams, wideGaps, counts}
-use Rattle.rules.specs.Reduced.{Kind}
+use Rattle.rules.specs.declared.Kind.{Kind}
 use Rattle.rules.specs.Texts.{text, endToEnd, lengthsOf}
 use Rattle.rules.proofs.Cost.{total, total-runs, active-short}
 use Rattle.sheet_lines.specs.Sheet.{line, spaced, numbers, countsLine, textLines}

@@ -12,7 +12,8 @@ use borrow.Author.Tests.{leb-true}
 use Rattle.number.specs.Questions.{accepted, filled}
 use Rattle.number.specs.declared.Written.{Written}
 use Rattle.rules.specs.Chart.{classes, tokens, counts}
-use Rattle.rules.specs.Reduced.{Kind, standard}
+use Rattle.rules.specs.declared.Kind.{Kind}
+use Rattle.rules.specs.declared.Kind.the-variants.{Standard as standard}
 use Rattle.rules.specs.Texts.{text, passKinds, endToEnd, lengthsOf}
 use Rattle.rules.specs.declared.StreamCounts.{StreamCounts}
 use Rattle.rules.specs.declared.StreamBreakdownLevel.the-variants as Level
