@@ -16,7 +16,7 @@ same-length : tie.Need-same-length
 same-length c = search needs
 
 returns : tie.Need-returns
-returns c = rw (too-long _ (c .before .before .before .before .if1 .taken)) (c .before .before .put-refusal .ensures)
+returns c = rw (too-long (c .before .before .before .before .before .before .before .args .input .now) (omega arith)) (c .before .before .put-refusal .ensures)
 
 slice-aggregate-read-chart-record : tie.Need-slice-aggregate-read-chart-record
 slice-aggregate-read-chart-record c = search needs
