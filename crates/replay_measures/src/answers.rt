@@ -7,6 +7,8 @@ use measures::alike::alike;
 use measures::counts::compute_stream_counts;
 use measures::share::share;
 use rules::StreamCounts;
+use rules::StreamSegment;
+use segments::first_segments;
 use segments::segment_at;
 use token_view::nth_token;
 ghost use Rattle.io.specs.Counts.{Counts};
@@ -99,6 +101,36 @@ fn put_token(out: &mut [u8], at: usize, class: u8, length: u32) -> usize
 
 // A word, and behind it the segments of `m`.
 fn put_segments(out: &mut [u8], at: usize, word: &[u8], m: &[u32]) -> usize
+    ensures { λ r. ⌜ Counts r (now (out .exit)) ⌝ }
+{
+    let places = first_segments(m);
+    let first = places[0];
+    // No segment ends at 0: there is none, or there are more than places.
+    if first.end == 0 {
+        return put_one_by_one(out, at, word, m);
+    }
+    put_places(out, at, word, places)
+}
+
+// A word, and behind it the segments in the places, up to the first that has none.
+fn put_places(out: &mut [u8], at: usize, word: &[u8], places: [StreamSegment; 64]) -> usize
+    ensures { λ r. ⌜ Counts r (now (out .exit)) ⌝ }
+{
+    let mut end = put_bytes(out, at, word);
+    let mut k = 0;
+    while k < 64 {
+        let segment = places[k];
+        if segment.end == 0 {
+            return end;
+        }
+        end = put_segment(out, end, segment.start, segment.end, segment.is_break);
+        k += 1;
+    }
+    end
+}
+
+// A word, and behind it the segments of `m`, each asked for.
+fn put_one_by_one(out: &mut [u8], at: usize, word: &[u8], m: &[u32]) -> usize
     ensures { λ r. ⌜ Counts r (now (out .exit)) ⌝ }
 {
     let mut end = put_bytes(out, at, word);

@@ -2,3 +2,4 @@ pub mod Stretches
 pub mod Answers
 pub mod Written
 pub mod Same
+pub mod ArrayLent

@@ -7,7 +7,7 @@ use lib.ListN.{length}
 use Rattle.rules.specs.Chart.{classes}
 use Rattle.rules.specs.declared.StreamSegment.{StreamSegment}
 use Rattle.rules.proofs.Demand.{same-length}
-use Rattle.segments.specs.Promises.{Segmented, nthSegment}
+use Rattle.segments.specs.Promises.{Segmented, placed, nthSegment}
 use Rattle.segments.specs.declared.SegmentsAnswer.{SegmentsAnswer}
 
 module _ (a b : List ℕ) (same : classes a ≡ classes b) where
@@ -20,3 +20,6 @@ module _ (a b : List ℕ) (same : classes a ≡ classes b) where
   pub same-nth : (k : ℕ) → nthSegment k a ≡ nthSegment k b
   unfolding nthSegment
   same-nth k = rw (long, same)
+
+  pub same-placed : placed a ≡ placed b
+  same-placed = rw (long, same)

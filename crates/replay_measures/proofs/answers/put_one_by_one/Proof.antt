@@ -1,4 +1,4 @@
--- `replay_measures::answers::put_segments` meets its contract: the place stays within the line, which keeps its length.
+-- `replay_measures::answers::put_one_by_one` meets its contract: the place stays within the line, which keeps its length.
 -- Assumes nothing.
 use Prim.Native.Nat.{_-_, _≤_}
 use mathlib.Core.Path.{_≡_}
@@ -6,8 +6,8 @@ use native.Mathlib.Omega.{arith}
 use lib.ListN.{length}
 use borrow.Author.Needs.{needs}
 use Rattle.io.proofs.Counting.{counts}
-use Rattle.replay_measures.proofs.answers.put_segments.Statement.{statement}
-use Rattle.replay_measures.proofs.answers.put_segments.Tie as tie
+use Rattle.replay_measures.proofs.answers.put_one_by_one.Statement.{statement}
+use Rattle.replay_measures.proofs.answers.put_one_by_one.Tie as tie
 
 abbrev Inv-loop : tie.InvT-loop
 Inv-loop out₀ at word m end₀ k₀ out end k = (end ≤ length out) × (length out ≡ length out₀)
@@ -48,8 +48,8 @@ same-length-2 c = search needs
 returns-2 : tie.Need-returns-2 Inv-loop μ-loop
 returns-2 c = counts _ _ (omega arith)
 
-pub put-segments-spec : {M : Type 1} → statement M
-put-segments-spec =
+pub put-one-by-one-spec : {M : Type 1} → statement M
+put-one-by-one-spec =
     tie.close
     (tie.spec
     Inv-loop
