@@ -10,14 +10,17 @@ use measures::share::ShareAnswer;
 use measures::share::share;
 use record::RecordAnswer;
 use record::read_chart_record;
+use rules::StreamSegment;
 use segments::NthSegment;
+use segments::SegmentsAnswer;
 use segments::segment_at;
+use segments::stream_sequences;
 use token_view::NthToken;
 use token_view::nth_token;
 ghost use mathlib.Core.Path.{_≡_};
 ghost use Rattle.rules.specs.Chart.{classOf};
 ghost use Rattle.measures.specs.Answers.{countsAnswer, shareAnswer, alikeAnswer};
-ghost use Rattle.segments.specs.Promises.{nthSegment};
+ghost use Rattle.segments.specs.Promises.{Segmented, nthSegment};
 ghost use Rattle.token_view.specs.Promises.{nthAnswer};
 ghost use Rattle.record.specs.Promises.{ReadRecord};
 ghost use Rattle.puvolamie_c.specs.Parts.{activeRange};
@@ -68,6 +71,13 @@ pub extern "C" fn pv_alike(a: &[u32], b: &[u32]) -> AlikeAnswer
     ensures { λ r. ⌜ r ≡ alikeAnswer (now (a .entry)) (now (b .entry)) ⌝ }
 {
     alike(a, b)
+}
+
+#[no_mangle]
+pub extern "C" fn pv_stream_sequences(m: &[u32], out: &mut [StreamSegment]) -> SegmentsAnswer
+    ensures { λ r. ⌜ Segmented (now (m .entry)) (now (out .entry)) (now (out .exit)) r ⌝ }
+{
+    stream_sequences(m, out)
 }
 
 #[no_mangle]
