@@ -2,7 +2,7 @@
 # Builds the static library, compiles the header as C and C++, and runs the example and the tests.
 set -e
 cd "$(dirname "$0")/.."
-rt staticlib puvolamie_c
+c/library.sh
 mkdir -p target/c
 library=target/staticlib/libpuvolamie_c.a
 c++ -Wall -Wextra -Werror -fsyntax-only -x c++ c/puvolamie.h

@@ -3,6 +3,6 @@
 # rust/run.sh [--quick] [SEED]: words are handed to the comparison.
 set -e
 cd "$(dirname "$0")"
-(cd .. && rt staticlib puvolamie_c)
+../c/library.sh
 cargo test --offline --quiet
 cargo run --offline --quiet --release -p compare -- "$@"

@@ -49,7 +49,7 @@ pub fn compare(m: &[usize], original: &Original, tally: &mut Tally) -> Outcome {
 }
 
 /// With slices of just what is due, for charts that are long.
-pub fn compare_exact(m: &[usize], original: &Original, tally: &mut Tally) -> Outcome {
+pub fn compare_just_due(m: &[usize], original: &Original, tally: &mut Tally) -> Outcome {
     let m = &densities(m);
     let due = due_of(original);
     segments(m, original, &[original.segments.len()], tally)?;

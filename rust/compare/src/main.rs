@@ -22,33 +22,52 @@ use std::process::ExitCode;
 use std::time::Instant;
 use tally::{Outcome, Tally};
 
-/// How much is compared.
+/// How much is compared: small charts by their length, random charts by their number, and long charts of each length. Every
+/// `lent_every`th random chart, and small charts of up to `small_lent` measures, are given lent slices of many lengths.
 struct Extent {
     small: usize,
     small_lent: usize,
-    random: u64,
-    random_lent_every: u64,
-    small_random: u64,
-    small_random_lent: u64,
+    shaped: u64,
+    scattered: u64,
+    lent_every: u64,
+    long: usize,
 }
 
 const FULL: Extent = Extent {
     small: 7,
     small_lent: 5,
-    random: 1_000_000,
-    random_lent_every: 20,
-    small_random: 500_000,
-    small_random_lent: 10,
+    shaped: 1_000_000,
+    scattered: 500_000,
+    lent_every: 10,
+    long: 7,
 };
 
 const QUICK: Extent = Extent {
     small: 5,
     small_lent: 3,
-    random: 30_000,
-    random_lent_every: 20,
-    small_random: 20_000,
-    small_random_lent: 20,
+    shaped: 30_000,
+    scattered: 20_000,
+    lent_every: 20,
+    long: 2,
 };
+
+/// The lent slices that a chart is given.
+#[derive(Clone, Copy)]
+enum Lends {
+    None,
+    AroundDue,
+    JustDue,
+}
+
+impl Lends {
+    fn around_if(holds: bool) -> Lends {
+        if holds {
+            Lends::AroundDue
+        } else {
+            Lends::None
+        }
+    }
+}
 
 fn main() -> ExitCode {
     let words: Vec<String> = std::env::args().skip(1).collect();
@@ -78,11 +97,13 @@ fn compare(extent: &Extent, seed: u64, tally: &mut Tally) -> Outcome {
     small_charts(extent, tally)?;
     say(tally, &format!("all charts of up to {} measures", extent.small));
     let random = &mut Random::new(seed);
-    shaped(extent, random, tally)?;
+    let shaped = || charts::shaped(random);
+    random_charts(extent.shaped, extent.lent_every, shaped, tally)?;
     say(tally, "random charts of runs and gaps at every boundary");
-    scattered(extent, random, tally)?;
+    let scattered = || charts::scattered(random);
+    random_charts(extent.scattered, extent.lent_every, scattered, tally)?;
     say(tally, "random charts of up to 12 measures at the class edges");
-    domain_edge(random, tally)?;
+    domain_edge(extent, random, tally)?;
     say(tally, "charts at the domain's edge");
     Ok(())
 }
@@ -91,47 +112,49 @@ fn say(tally: &Tally, what: &str) {
     println!("{what}: {} charts, {} comparisons so far", tally.charts, tally.comparisons);
 }
 
-/// One chart; with lent slices of every length around what is due where `lends` says so.
-fn chart(m: &[usize], lends: bool, tally: &mut Tally) -> Outcome {
+fn chart(m: &[usize], lends: Lends, tally: &mut Tally) -> Outcome {
     tally.charts += 1;
     let original = Original::of(m)?;
+    let lent = |tally: &mut Tally| match lends {
+        Lends::None => Ok(()),
+        Lends::AroundDue => lent::compare(m, &original, tally),
+        Lends::JustDue => lent::compare_just_due(m, &original, tally),
+    };
     owned::compare(m, &original, tally)
-        .and_then(|()| if lends { lent::compare(m, &original, tally) } else { Ok(()) })
+        .and_then(|()| lent(tally))
         .map_err(|difference| format!("{difference}\nin the chart {}", charts::described(m)))
 }
 
 fn small_charts(extent: &Extent, tally: &mut Tally) -> Outcome {
     for length in 0..=extent.small {
+        let lends = Lends::around_if(length <= extent.small_lent);
         for number in 0..charts::small_count(length) {
-            chart(&charts::small(length, number), length <= extent.small_lent, tally)?;
+            chart(&charts::small(length, number), lends, tally)?;
         }
     }
     Ok(())
 }
 
-fn shaped(extent: &Extent, random: &mut Random, tally: &mut Tally) -> Outcome {
-    for i in 0..extent.random {
-        chart(&charts::shaped(random), i % extent.random_lent_every == 0, tally)?;
-    }
-    Ok(())
-}
-
-fn scattered(extent: &Extent, random: &mut Random, tally: &mut Tally) -> Outcome {
-    for i in 0..extent.small_random {
-        chart(&charts::scattered(random), i % extent.small_random_lent == 0, tally)?;
+fn random_charts(
+    count: u64,
+    lent_every: u64,
+    mut next: impl FnMut() -> Vec<usize>,
+    tally: &mut Tally,
+) -> Outcome {
+    for i in 0..count {
+        chart(&next(), Lends::around_if(i % lent_every == 0), tally)?;
     }
     Ok(())
 }
 
 /// As long as the domain allows, and one measure more, which every call refuses.
-fn domain_edge(random: &mut Random, tally: &mut Tally) -> Outcome {
+fn domain_edge(extent: &Extent, random: &mut Random, tally: &mut Tally) -> Outcome {
     for length in [1_048_575, 1_048_576] {
-        for m in charts::long(random, length) {
-            chart(&m, false, tally)?;
-            lent::compare_exact(&m, &Original::of(&m)?, tally)?;
+        for m in charts::long(random, length).into_iter().rev().take(extent.long) {
+            chart(&m, Lends::JustDue, tally)?;
         }
     }
-    for m in charts::long(random, 1_048_577) {
+    for m in charts::long(random, 1_048_577).into_iter().rev().take(extent.long) {
         tally.charts += 1;
         owned::compare_refused(&m, tally)?;
         lent::compare_refused(&m, tally)?;
