@@ -38,7 +38,9 @@ pub fn categorize_measure_density(density: u32) -> RunDensity {
 #[must_use]
 pub fn active_range(m: &[u32]) -> &[u32] {
     let r = ffi::active_range(m);
-    m.get(r.start..).and_then(|rest| rest.get(..r.length)).unwrap_or_default()
+    m.get(r.start..)
+        .and_then(|rest| rest.get(..r.length))
+        .unwrap_or_default()
 }
 
 /// Counts. Question 1.
@@ -152,7 +154,11 @@ pub fn compute_stream_outputs(
     out: &mut [u8],
 ) -> Result<Outputs, Refused> {
     let r = ffi::compute_stream_outputs(m, classes, lengths, out);
-    let outputs = Outputs { counts: r.counts, tokens: r.tokens, lengths: r.lengths };
+    let outputs = Outputs {
+        counts: r.counts,
+        tokens: r.tokens,
+        lengths: r.lengths,
+    };
     Refused::unless(r.refused, outputs)
 }
 

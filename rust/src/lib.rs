@@ -25,7 +25,8 @@ pub type Texts = (String, String, String);
 /// first that is too many are left out, and the chart is refused all the same.
 fn densities(measures: &[usize]) -> Vec<u32> {
     let most = measures.iter().take(MOST_MEASURES + 1);
-    most.map(|&d| u32::try_from(d).unwrap_or(u32::MAX)).collect()
+    most.map(|&d| u32::try_from(d).unwrap_or(u32::MAX))
+        .collect()
 }
 
 /// All texts consist of bytes below 80.
@@ -127,7 +128,9 @@ pub fn stream_breakdown(
     level: StreamBreakdownLevel,
 ) -> Result<String, Refused> {
     let m = densities(measures);
-    text(3 * m.len() + 11, |out| lent::stream_breakdown(&m, level, out))
+    text(3 * m.len() + 11, |out| {
+        lent::stream_breakdown(&m, level, out)
+    })
 }
 
 /// Standard detailed, partial and simple.
@@ -141,5 +144,7 @@ pub fn stream_breakdowns(measures: &[usize]) -> Result<Texts, Refused> {
 /// One run as an SN text shows it. A break is refused with 5.
 pub fn format_run_symbol(cat: RunDensity, len: usize, star: bool) -> Result<String, Refused> {
     // 20 digits, two signs and a star.
-    text(23, |out| lent::format_run_symbol(cat, len as u64, star, out))
+    text(23, |out| {
+        lent::format_run_symbol(cat, len as u64, star, out)
+    })
 }

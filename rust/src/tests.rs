@@ -11,6 +11,7 @@ struct Chart {
 
 const NONE: &str = "No Streams!";
 
+#[rustfmt::skip]
 const CHARTS: [Chart; 13] = [
     Chart { stretches: &[], counts: [0; 6], texts: ["", "", "", NONE, NONE, NONE, NONE] },
     Chart { stretches: &[(15, 1)], counts: [0; 6], texts: ["", "", "", NONE, NONE, NONE, NONE] },
@@ -29,7 +30,9 @@ const CHARTS: [Chart; 13] = [
 
 fn measures(chart: &Chart) -> Vec<usize> {
     let stretches = chart.stretches.iter();
-    stretches.flat_map(|&(density, count)| vec![density; count]).collect()
+    stretches
+        .flat_map(|&(density, count)| vec![density; count])
+        .collect()
 }
 
 fn counts([run16, run20, run24, run32, total_breaks, sn_breaks]: [u32; 6]) -> StreamCounts {
@@ -49,7 +52,11 @@ fn owned(texts: &[&str]) -> Texts {
 
 #[test]
 fn texts_and_counts_of_the_paper() {
-    let modes = [BreakdownMode::Detailed, BreakdownMode::Partial, BreakdownMode::Simplified];
+    let modes = [
+        BreakdownMode::Detailed,
+        BreakdownMode::Partial,
+        BreakdownMode::Simplified,
+    ];
     let levels = [
         StreamBreakdownLevel::Detailed,
         StreamBreakdownLevel::Partial,
@@ -86,7 +93,11 @@ fn tokens_and_segments_of_case_12() {
         Token::Run(RunDensity::Run16, 1),
     ];
     assert_eq!(tokens, due);
-    let segment = |start, end, is_break| StreamSegment { start, end, is_break };
+    let segment = |start, end, is_break| StreamSegment {
+        start,
+        end,
+        is_break,
+    };
     let segments = vec![
         segment(0, 2, false),
         segment(3, 5, false),
@@ -102,18 +113,27 @@ fn densities_above_a_u32_keep_their_class() {
     let wide = u32::MAX as usize + 1;
     assert_eq!(categorize_measure_density(wide), RunDensity::Run32);
     assert_eq!(generate_breakdowns(&[wide]).unwrap().0, "=1=");
-    assert_eq!(compute_stream_counts(&[usize::MAX]).unwrap().run32_streams, 1);
+    assert_eq!(
+        compute_stream_counts(&[usize::MAX]).unwrap().run32_streams,
+        1
+    );
 }
 
 #[test]
 fn refusals_carry_the_questions_number() {
     let many = vec![16; MOST_MEASURES + 1];
     let mut tokens = vec![Token::Break(7)];
-    assert_eq!(compute_stream_outputs_with_scratch(&many, &mut tokens), Err(Refused(1)));
+    assert_eq!(
+        compute_stream_outputs_with_scratch(&many, &mut tokens),
+        Err(Refused(1))
+    );
     assert_eq!(tokens, [Token::Break(7)]);
     assert_eq!(stream_sequences(&many), Err(Refused(1)));
     assert_eq!(stream_breakdowns(&many), Err(Refused(1)));
-    assert_eq!(format_run_symbol(RunDensity::Break, 3, false), Err(Refused(5)));
+    assert_eq!(
+        format_run_symbol(RunDensity::Break, 3, false),
+        Err(Refused(5))
+    );
     assert_eq!(lent::share(&[0, 15]), Err(Refused(7)));
     assert_eq!(lent::label(&[16], 0, &mut [0; 9]), Err(Refused(6)));
     assert_eq!(lent::push_u64(&mut [0; 2], 100), Err(Refused(4)));
@@ -134,14 +154,21 @@ fn numbers_and_run_symbols() {
 fn record_view_and_label_of_case_12() {
     let record = [1, 0, 1, 0x41, 2, 0, 9, 16, 16, 0, 20, 20, 0, 0, 0, 16];
     let mut m = [7; 10];
-    let read = lent::ChartRecord { measures: 9, name_start: 3, name_length: 1 };
+    let read = lent::ChartRecord {
+        measures: 9,
+        name_start: 3,
+        name_length: 1,
+    };
     assert_eq!(lent::read_chart_record(&record, &mut m), Ok(read));
     assert_eq!(m, [16, 16, 0, 20, 20, 0, 0, 0, 16, 7]);
     let m = &m[..9];
     assert_eq!(lent::active_range(m), m);
     assert_eq!(lent::stream_tokens(m).unwrap().count(), 5);
     let mut out = [0; 16];
-    assert_eq!(lent::label(m, 5, &mut out), Ok((StreamBreakdownLevel::Partial, 5)));
+    assert_eq!(
+        lent::label(m, 5, &mut out),
+        Ok((StreamBreakdownLevel::Partial, 5))
+    );
     assert_eq!(&out[..5], b"2-2-1");
     assert_eq!(lent::label_pair(b"first", b"two", 4), b"two");
 }

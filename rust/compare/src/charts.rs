@@ -11,7 +11,17 @@ const CLASSES: [&[usize]; 5] = [
     &[16, 17, 19],
     &[20, 23],
     &[24, 25, 31],
-    &[32, 33, 255, 256, 65_536, 4_294_967_295, 4_294_967_296, 4_294_967_312, usize::MAX],
+    &[
+        32,
+        33,
+        255,
+        256,
+        65_536,
+        4_294_967_295,
+        4_294_967_296,
+        4_294_967_312,
+        usize::MAX,
+    ],
 ];
 
 /// Gaps at both sides of every boundary of the two notations, and of the numbers of digits.
@@ -21,8 +31,9 @@ const GAPS: [usize; 18] = [1, 1, 1, 2, 2, 3, 4, 4, 5, 5, 6, 9, 10, 31, 32, 33, 3
 const ENDS: [usize; 12] = [0, 0, 0, 1, 2, 3, 4, 5, 31, 32, 33, 34];
 
 /// Lengths of runs, around the powers of ten.
-const RUNS: [usize; 24] =
-    [1, 1, 1, 1, 2, 2, 3, 3, 4, 5, 6, 7, 8, 9, 10, 11, 12, 15, 48, 49, 98, 99, 100, 101];
+const RUNS: [usize; 24] = [
+    1, 1, 1, 1, 2, 2, 3, 3, 4, 5, 6, 7, 8, 9, 10, 11, 12, 15, 48, 49, 98, 99, 100, 101,
+];
 
 /// Lengths that are rarer, since such charts are long.
 const LONG_RUNS: [usize; 8] = [498, 499, 998, 999, 1000, 1001, 9999, 10_000];

@@ -14,7 +14,10 @@ pub struct Guarded<T> {
 impl<T: Copy + PartialEq + Debug> Guarded<T> {
     /// `room` places between two guards, all with the mark.
     pub fn new(room: usize, mark: T) -> Guarded<T> {
-        Guarded { area: vec![mark; GUARD + room + GUARD], mark }
+        Guarded {
+            area: vec![mark; GUARD + room + GUARD],
+            mark,
+        }
     }
 
     pub fn room(&self) -> usize {
@@ -33,7 +36,11 @@ impl<T: Copy + PartialEq + Debug> Guarded<T> {
         let (written, after) = rest.split_at(due.len());
         tally.same(what, written, due)?;
         let left = (mark(before), mark(after));
-        tally.same(&format!("{what}: places that must not change"), left, (true, true))
+        tally.same(
+            &format!("{what}: places that must not change"),
+            left,
+            (true, true),
+        )
     }
 }
 

@@ -8,7 +8,11 @@ use puvolamie::{Refused, RunDensity, StreamSegment, Token};
 
 const MARK: u8 = 0xA5;
 const MARK_LENGTH: u32 = 0xA5A5_A5A5;
-const MARK_SEGMENT: StreamSegment = StreamSegment { start: 77, end: 78, is_break: true };
+const MARK_SEGMENT: StreamSegment = StreamSegment {
+    start: 77,
+    end: 78,
+    is_break: true,
+};
 
 /// No place, and every number of places around `due`.
 fn rooms(due: usize) -> Vec<usize> {
@@ -18,7 +22,9 @@ fn rooms(due: usize) -> Vec<usize> {
 }
 
 fn densities(m: &[usize]) -> Vec<u32> {
-    m.iter().map(|&d| u32::try_from(d).unwrap_or(u32::MAX)).collect()
+    m.iter()
+        .map(|&d| u32::try_from(d).unwrap_or(u32::MAX))
+        .collect()
 }
 
 fn class_number(class: RunDensity) -> u8 {
@@ -53,23 +59,47 @@ pub fn compare_just_due(m: &[usize], original: &Original, tally: &mut Tally) -> 
     let m = &densities(m);
     let due = due_of(original);
     segments(m, original, &[original.segments.len()], tally)?;
-    pass(m, &due, [due.classes.len(), due.lengths.len(), due.text.len()], tally)?;
+    pass(
+        m,
+        &due,
+        [due.classes.len(), due.lengths.len(), due.text.len()],
+        tally,
+    )?;
     if !due.classes.is_empty() {
-        pass(m, &due, [due.classes.len(), due.lengths.len() - 1, due.text.len()], tally)?;
+        pass(
+            m,
+            &due,
+            [due.classes.len(), due.lengths.len() - 1, due.text.len()],
+            tally,
+        )?;
     }
-    pass(m, &due, [due.classes.len(), due.lengths.len(), due.text.len() - 1], tally)
+    pass(
+        m,
+        &due,
+        [due.classes.len(), due.lengths.len(), due.text.len() - 1],
+        tally,
+    )
 }
 
 /// Active part, share, alike, and tokens of the whole chart by the view and by number.
 fn read_off(m: &[u32], original: &Original, tally: &mut Tally) -> Outcome {
-    let active = original.active.map_or(&m[..0], |(first, last)| &m[first..=last]);
+    let active = original
+        .active
+        .map_or(&m[..0], |(first, last)| &m[first..=last]);
     tally.same("active_range", lent::active_range(m), active)?;
     let share = original.share().ok_or(Refused(7));
     tally.same("share", lent::share(m), share)?;
-    let flat: Vec<u32> = active.iter().map(|&d| if d < 16 { 7 } else { 40 }).collect();
+    let flat: Vec<u32> = active
+        .iter()
+        .map(|&d| if d < 16 { 7 } else { 40 })
+        .collect();
     tally.same("alike", lent::alike(m, &flat), Ok(true))?;
     let longer = [m, &[0, 16]].concat();
-    tally.same("alike, with a piece more", lent::alike(m, &longer), Ok(false))?;
+    tally.same(
+        "alike, with a piece more",
+        lent::alike(m, &longer),
+        Ok(false),
+    )?;
     let view: Vec<Token> = lent::stream_tokens(m).into_iter().flatten().collect();
     tally.same("tokens of the view", &view, &original.all_tokens)?;
     for k in 0..original.all_tokens.len().min(8) + 2 {
@@ -150,7 +180,11 @@ fn labels(m: &[u32], original: &Original, tally: &mut Tally) -> Outcome {
     for width in original.standard.iter().flat_map(|text| rooms(text.len())) {
         let Some((level, due)) = original.label(width) else {
             let mut out = Guarded::new(40, MARK);
-            tally.same("no label fits", lent::label(m, width, out.lend()), Err(Refused(6)))?;
+            tally.same(
+                "no label fits",
+                lent::label(m, width, out.lend()),
+                Err(Refused(6)),
+            )?;
             out.compare("no label fits", &[], tally)?;
             continue;
         };
@@ -181,9 +215,17 @@ fn due_of(original: &Original) -> Due {
     for (length, text) in each.iter_mut().zip(&texts) {
         *length = text.len();
     }
-    let outputs =
-        Outputs { counts: original.counts, tokens: original.tokens.len(), lengths: each };
-    Due { classes, lengths, text: texts.into_iter().map(String::as_str).collect(), outputs }
+    let outputs = Outputs {
+        counts: original.counts,
+        tokens: original.tokens.len(),
+        lengths: each,
+    };
+    Due {
+        classes,
+        lengths,
+        text: texts.into_iter().map(String::as_str).collect(),
+        outputs,
+    }
 }
 
 /// One slice at a time varied around what is due, the others exact; and all three roomy.
@@ -229,31 +271,37 @@ fn pass(m: &[u32], due: &Due, rooms: [usize; 3], tally: &mut Tally) -> Outcome {
 /// A chart of too many measures: the refusal 1, and nothing written.
 pub fn compare_refused(m: &[usize], tally: &mut Tally) -> Outcome {
     let m = &densities(m);
-    let no = Refused(1);
+    refused_readings(m, tally)?;
     let mut classes = Guarded::new(m.len(), MARK);
     let mut lengths = Guarded::new(m.len(), MARK_LENGTH);
     let mut out = Guarded::new(17 * m.len() + 33, MARK);
     let mut places = Guarded::new(m.len(), MARK_SEGMENT);
     let pass = lent::compute_stream_outputs(m, classes.lend(), lengths.lend(), out.lend());
-    tally.same("the pass", pass, Err(no))?;
-    tally.same("segments", lent::stream_sequences(m, places.lend()), Err(no))?;
-    tally.same("SN texts", lent::generate_breakdowns(m, out.lend()), Err(no))?;
-    tally.same("standard texts", lent::stream_breakdowns(m, out.lend()), Err(no))?;
+    tally.too_many("the pass", pass)?;
+    tally.too_many("segments", lent::stream_sequences(m, places.lend()))?;
+    tally.too_many("SN texts", lent::generate_breakdowns(m, out.lend()))?;
+    tally.too_many("standard texts", lent::stream_breakdowns(m, out.lend()))?;
     for (mode, _) in MODES {
-        tally.same("SN text", lent::generate_breakdown(m, mode, out.lend()), Err(no))?;
+        tally.too_many("SN text", lent::generate_breakdown(m, mode, out.lend()))?;
     }
     for (level, _) in LEVELS {
-        tally.same("standard text", lent::stream_breakdown(m, level, out.lend()), Err(no))?;
+        let text = lent::stream_breakdown(m, level, out.lend());
+        tally.too_many("standard text", text)?;
     }
-    tally.same("label", lent::label(m, 11, out.lend()), Err(no))?;
-    tally.same("share", lent::share(m), Err(no))?;
-    tally.same("alike, first", lent::alike(m, &[]), Err(no))?;
-    tally.same("alike, second", lent::alike(&[], m), Err(no))?;
-    tally.same("token", lent::nth_token(m, 0), Err(no))?;
-    tally.same("segment", lent::segment_at(m, 0), Err(no))?;
-    tally.same("view", lent::stream_tokens(m).is_err(), true)?;
+    tally.too_many("label", lent::label(m, 11, out.lend()))?;
     classes.compare("classes", &[], tally)?;
     lengths.compare("lengths", &[], tally)?;
     places.compare("segments", &[], tally)?;
     out.compare("texts", &[], tally)
+}
+
+/// The calls that write nothing, on a chart of too many measures.
+fn refused_readings(m: &[u32], tally: &mut Tally) -> Outcome {
+    tally.too_many("counts", lent::compute_stream_counts(m))?;
+    tally.too_many("share", lent::share(m))?;
+    tally.too_many("alike, first", lent::alike(m, &[]))?;
+    tally.too_many("alike, second", lent::alike(&[], m))?;
+    tally.too_many("token", lent::nth_token(m, 0))?;
+    tally.too_many("segment", lent::segment_at(m, 0))?;
+    tally.same("view", lent::stream_tokens(m).is_err(), true)
 }

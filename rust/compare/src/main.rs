@@ -95,21 +95,30 @@ fn compare(extent: &Extent, seed: u64, tally: &mut Tally) -> Outcome {
     numbers::compare(tally)?;
     say(tally, "numbers and run symbols");
     small_charts(extent, tally)?;
-    say(tally, &format!("all charts of up to {} measures", extent.small));
+    say(
+        tally,
+        &format!("all charts of up to {} measures", extent.small),
+    );
     let random = &mut Random::new(seed);
     let shaped = || charts::shaped(random);
     random_charts(extent.shaped, extent.lent_every, shaped, tally)?;
     say(tally, "random charts of runs and gaps at every boundary");
     let scattered = || charts::scattered(random);
     random_charts(extent.scattered, extent.lent_every, scattered, tally)?;
-    say(tally, "random charts of up to 12 measures at the class edges");
+    say(
+        tally,
+        "random charts of up to 12 measures at the class edges",
+    );
     domain_edge(extent, random, tally)?;
     say(tally, "charts at the domain's edge");
     Ok(())
 }
 
 fn say(tally: &Tally, what: &str) {
-    println!("{what}: {} charts, {} comparisons so far", tally.charts, tally.comparisons);
+    println!(
+        "{what}: {} charts, {} comparisons so far",
+        tally.charts, tally.comparisons
+    );
 }
 
 fn chart(m: &[usize], lends: Lends, tally: &mut Tally) -> Outcome {
@@ -150,11 +159,19 @@ fn random_charts(
 /// As long as the domain allows, and one measure more, which every call refuses.
 fn domain_edge(extent: &Extent, random: &mut Random, tally: &mut Tally) -> Outcome {
     for length in [1_048_575, 1_048_576] {
-        for m in charts::long(random, length).into_iter().rev().take(extent.long) {
+        for m in charts::long(random, length)
+            .into_iter()
+            .rev()
+            .take(extent.long)
+        {
             chart(&m, Lends::JustDue, tally)?;
         }
     }
-    for m in charts::long(random, 1_048_577).into_iter().rev().take(extent.long) {
+    for m in charts::long(random, 1_048_577)
+        .into_iter()
+        .rev()
+        .take(extent.long)
+    {
         tally.charts += 1;
         owned::compare_refused(&m, tally)?;
         lent::compare_refused(&m, tally)?;

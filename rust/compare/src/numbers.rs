@@ -9,7 +9,11 @@ use puvolamie::{lent, Refused, RunDensity};
 pub fn compare(tally: &mut Tally) -> Outcome {
     for density in (0..300).chain([65_536, 4_294_967_295, 4_294_967_296, usize::MAX]) {
         let theirs = class_of(streams::categorize_measure_density(density));
-        tally.same("categorize", puvolamie::categorize_measure_density(density), theirs)?;
+        tally.same(
+            "categorize",
+            puvolamie::categorize_measure_density(density),
+            theirs,
+        )?;
     }
     for n in edges() {
         number(n, tally)?;

@@ -4,16 +4,40 @@ use crate::streams;
 use puvolamie::{RunDensity, StreamCounts, StreamSegment, Texts, Token};
 
 pub const MODES: [(puvolamie::BreakdownMode, streams::BreakdownMode); 3] = [
-    (puvolamie::BreakdownMode::Detailed, streams::BreakdownMode::Detailed),
-    (puvolamie::BreakdownMode::Partial, streams::BreakdownMode::Partial),
-    (puvolamie::BreakdownMode::Simplified, streams::BreakdownMode::Simplified),
+    (
+        puvolamie::BreakdownMode::Detailed,
+        streams::BreakdownMode::Detailed,
+    ),
+    (
+        puvolamie::BreakdownMode::Partial,
+        streams::BreakdownMode::Partial,
+    ),
+    (
+        puvolamie::BreakdownMode::Simplified,
+        streams::BreakdownMode::Simplified,
+    ),
 ];
 
-pub const LEVELS: [(puvolamie::StreamBreakdownLevel, streams::StreamBreakdownLevel); 4] = [
-    (puvolamie::StreamBreakdownLevel::Detailed, streams::StreamBreakdownLevel::Detailed),
-    (puvolamie::StreamBreakdownLevel::Partial, streams::StreamBreakdownLevel::Partial),
-    (puvolamie::StreamBreakdownLevel::Simple, streams::StreamBreakdownLevel::Simple),
-    (puvolamie::StreamBreakdownLevel::Total, streams::StreamBreakdownLevel::Total),
+pub const LEVELS: [(
+    puvolamie::StreamBreakdownLevel,
+    streams::StreamBreakdownLevel,
+); 4] = [
+    (
+        puvolamie::StreamBreakdownLevel::Detailed,
+        streams::StreamBreakdownLevel::Detailed,
+    ),
+    (
+        puvolamie::StreamBreakdownLevel::Partial,
+        streams::StreamBreakdownLevel::Partial,
+    ),
+    (
+        puvolamie::StreamBreakdownLevel::Simple,
+        streams::StreamBreakdownLevel::Simple,
+    ),
+    (
+        puvolamie::StreamBreakdownLevel::Total,
+        streams::StreamBreakdownLevel::Total,
+    ),
 ];
 
 pub const CLASSES: [(RunDensity, streams::RunDensity); 5] = [
@@ -41,7 +65,10 @@ impl Original {
         let (counts, tokens) = streams::counts_and_tokens(m);
         let original = Original {
             counts: counts_of(counts),
-            segments: streams::stream_sequences(m).into_iter().map(segment_of).collect(),
+            segments: streams::stream_sequences(m)
+                .into_iter()
+                .map(segment_of)
+                .collect(),
             all_tokens: streams::all_tokens(m).into_iter().map(token_of).collect(),
             tokens: tokens.into_iter().map(token_of).collect(),
             sn: MODES.map(|(_, mode)| streams::generate_breakdown(m, mode)),
@@ -53,7 +80,9 @@ impl Original {
             && streams::stream_breakdowns(m) == original.standard_texts()
             && pass == (counts, original.sn_texts(), original.standard_texts())
             && streams::compute_stream_counts(m) == counts;
-        agree.then_some(original).ok_or_else(|| "the original's own calls differ".into())
+        agree
+            .then_some(original)
+            .ok_or_else(|| "the original's own calls differ".into())
     }
 
     pub fn sn_texts(&self) -> Texts {
@@ -76,7 +105,12 @@ impl Original {
     /// Share, worked out from the original's counts; none without a stream measure.
     pub fn share(&self) -> Option<u32> {
         let c = &self.counts;
-        let runs = [c.run16_streams, c.run20_streams, c.run24_streams, c.run32_streams];
+        let runs = [
+            c.run16_streams,
+            c.run20_streams,
+            c.run24_streams,
+            c.run32_streams,
+        ];
         let streams: u64 = runs.into_iter().map(u64::from).sum();
         let share = (10_000 * streams).checked_div(streams + u64::from(c.total_breaks))?;
         (streams != 0).then_some(share as u32)
@@ -95,7 +129,11 @@ fn counts_of(c: streams::StreamCounts) -> StreamCounts {
 }
 
 fn segment_of(s: streams::StreamSegment) -> StreamSegment {
-    StreamSegment { start: s.start, end: s.end, is_break: s.is_break }
+    StreamSegment {
+        start: s.start,
+        end: s.end,
+        is_break: s.is_break,
+    }
 }
 
 pub fn class_of(class: streams::RunDensity) -> RunDensity {

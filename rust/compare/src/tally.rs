@@ -1,5 +1,6 @@
 //! What was compared, and how much.
 
+use puvolamie::Refused;
 use std::fmt::Debug;
 
 /// Nothing, or the first difference.
@@ -17,7 +18,20 @@ impl Tally {
         if ours == theirs {
             return Ok(());
         }
-        Err(format!("{what}: ours {}, the original's {}", short(&ours), short(&theirs)))
+        Err(format!(
+            "{what}: ours {}, the original's {}",
+            short(&ours),
+            short(&theirs)
+        ))
+    }
+
+    /// A chart of too many measures is refused with 1.
+    pub fn too_many<T: PartialEq + Debug>(
+        &mut self,
+        what: &str,
+        ours: Result<T, Refused>,
+    ) -> Outcome {
+        self.same(what, ours, Err(Refused(1)))
     }
 }
 
