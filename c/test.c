@@ -1,0 +1,540 @@
+/* Calls every function on the paper's charts and checks answers, refusals and the elements that must stay as they were. */
+#include "layout.h"
+#include "puvolamie.h"
+
+#include <stdio.h>
+#include <stdlib.h>
+#include <string.h>
+
+enum { GUARD = 16, MOST = 2048, LEFT = 0xA5 };
+
+static size_t checks;
+static size_t failures;
+static const char *chart_name = "";
+
+static void expect(bool holds, const char *what)
+{
+    checks++;
+    if (!holds) {
+        failures++;
+        printf("chart %s: %s\n", chart_name, what);
+    }
+}
+
+/* ---- memory that is lent, with guards around it */
+
+static uint8_t text_area[GUARD + MOST + GUARD];
+static uint8_t class_area[GUARD + MOST + GUARD];
+static uint32_t length_area[GUARD + MOST + GUARD];
+static pv_segment segment_area[GUARD + MOST + GUARD];
+
+static uint8_t *const text = text_area + GUARD;
+static uint8_t *const classes = class_area + GUARD;
+static uint32_t *const lengths = length_area + GUARD;
+static pv_segment *const segments = segment_area + GUARD;
+
+static void lend(void)
+{
+    memset(text_area, LEFT, sizeof text_area);
+    memset(class_area, LEFT, sizeof class_area);
+    memset(length_area, LEFT, sizeof length_area);
+    memset(segment_area, LEFT, sizeof segment_area);
+}
+
+/* Are all bytes of an area but `count` elements behind its guard as they were lent? */
+static bool left_over(const void *area, size_t size, size_t element, size_t count)
+{
+    const uint8_t *bytes = area;
+    for (size_t i = 0; i < size; i++) {
+        bool written = i >= GUARD * element && i < (GUARD + count) * element;
+        if (!written && bytes[i] != LEFT)
+            return false;
+    }
+    return true;
+}
+
+static bool wrote(size_t bytes, size_t tokens)
+{
+    return left_over(text_area, sizeof text_area, 1, bytes) && left_over(class_area, sizeof class_area, 1, tokens) &&
+           left_over(length_area, sizeof length_area, sizeof(uint32_t), tokens);
+}
+
+static bool wrote_segments(size_t count)
+{
+    return left_over(segment_area, sizeof segment_area, sizeof(pv_segment), count);
+}
+
+static bool same_text(const uint8_t *bytes, size_t length, const char *expected)
+{
+    return length == strlen(expected) && memcmp(bytes, expected, length) == 0;
+}
+
+/* ---- the paper's charts */
+
+struct stretch {
+    uint32_t density;
+    size_t measures;
+};
+
+struct token {
+    uint8_t class_number;
+    uint32_t length;
+};
+
+struct chart {
+    const char *name;
+    struct stretch stretches[6];
+    pv_counts counts;
+    const char *texts[7]; /* SN detailed, partial, simplified, standard detailed, partial, simple, Total */
+};
+
+#define NONE "No Streams!"
+
+static const struct chart charts[] = {
+    {"1", {{0, 0}}, {0, 0, 0, 0, 0, 0}, {"", "", "", NONE, NONE, NONE, NONE}},
+    {"2", {{15, 1}}, {0, 0, 0, 0, 0, 0}, {"", "", "", NONE, NONE, NONE, NONE}},
+    {"3", {{16, 1}}, {1, 0, 0, 0, 0, 0}, {"1", "1", "1", "1", "1", "1", "1 Total"}},
+    {"4", {{19, 1}, {20, 1}}, {1, 1, 0, 0, 0, 0}, {"1 ~1~", "1 ~1~", "1 ~1~", "2", "2", "2", "2 Total"}},
+    {"5", {{16, 1}, {0, 1}, {16, 1}}, {2, 0, 0, 0, 0, 1}, {"1 1", "3*", "3*", "1-1", "1-1", "3*", "2 Total"}},
+    {"6", {{16, 1}, {0, 4}, {16, 1}}, {2, 0, 0, 0, 4, 4}, {"1 (4) 1", "1 - 1", "6*", "1 (4) 1", "1-1", "1-1", "2 Total"}},
+    {"7", {{16, 1}, {0, 5}, {16, 1}}, {2, 0, 0, 0, 5, 5}, {"1 (5) 1", "1 / 1", "1 / 1", "1 (5) 1", "1/1", "1/1", "2 Total"}},
+    {"8", {{16, 1}, {0, 32}, {16, 1}}, {2, 0, 0, 0, 32, 32}, {"1 (32) 1", "1 / 1", "1 / 1", "1 (32) 1", "1 | 1", "1 | 1", "2 Total"}},
+    {"9", {{16, 1}, {0, 33}, {16, 1}}, {2, 0, 0, 0, 33, 33}, {"1 (33) 1", "1 | 1", "1 | 1", "1 (33) 1", "1 | 1", "1 | 1", "2 Total"}},
+    {"10", {{32, 1}, {0, 2}, {16, 1}}, {1, 0, 0, 1, 2, 2}, {"=1= (2) 1", "=1= - 1", "=3=* 1", "1 (2) 1", "1-1", "1-1", "2 Total"}},
+    {"11", {{0, 2}, {16, 1}}, {1, 0, 0, 0, 2, 0}, {"1", "1", "1", "1", "1", "1", "1 Total"}},
+    {"11, 1 q", {{0, 1}, {16, 1}}, {1, 0, 0, 0, 0, 0}, {"1", "1", "1", "1", "1", "1", "1 Total"}},
+    {"12", {{16, 2}, {0, 1}, {20, 2}, {0, 3}, {16, 1}}, {3, 2, 0, 0, 3, 4}, {"2 ~2~ (3) 1", "2 ~2~ - 1", "2 ~5~* 1", "2-2 (3) 1", "2-2-1", "5*-1", "5 Total"}},
+};
+
+enum { CHARTS = sizeof charts / sizeof charts[0] };
+
+static uint32_t m[MOST];
+static size_t m_length;
+
+static void load(const struct chart *chart)
+{
+    chart_name = chart->name;
+    m_length = 0;
+    for (const struct stretch *s = chart->stretches; s < chart->stretches + 6; s++)
+        for (size_t i = 0; i < s->measures; i++)
+            m[m_length++] = s->density;
+}
+
+/* The chart's stretches are its tokens; those of the active part leave breaks at both ends out. */
+static size_t tokens_of(const struct chart *chart, struct token *tokens, bool active)
+{
+    size_t count = 0;
+    for (const struct stretch *s = chart->stretches; s < chart->stretches + 6; s++) {
+        uint32_t class_number = pv_categorize_measure_density(s->density);
+        bool leading = active && count == 0 && class_number == PV_BREAK;
+        if (s->measures != 0 && !leading) {
+            tokens[count].class_number = (uint8_t)class_number;
+            tokens[count++].length = (uint32_t)s->measures;
+        }
+    }
+    while (active && count != 0 && tokens[count - 1].class_number == PV_BREAK)
+        count--;
+    return count;
+}
+
+/* ---- one text */
+
+static pv_written write_text(int kind, size_t room)
+{
+    lend();
+    if (kind < 3)
+        return pv_generate_breakdown(m, m_length, text, room, (uint32_t)kind);
+    return pv_stream_breakdown(m, m_length, text, room, (uint32_t)kind - 2);
+}
+
+static void test_text(const struct chart *chart, int kind)
+{
+    size_t due = strlen(chart->texts[kind]);
+    for (size_t room = 0; room <= due + 3; room++) {
+        pv_written r = write_text(kind, room);
+        if (room < due) {
+            expect(r.refused == PV_TEXT_TOO_SHORT && r.length == 0, "a short text array is refused");
+            expect(wrote(0, 0), "a refused text writes nothing");
+        } else {
+            expect(r.refused == PV_ACCEPTED && same_text(text, r.length, chart->texts[kind]), "one text");
+            expect(wrote(due, 0), "later bytes are unchanged");
+        }
+    }
+}
+
+static void test_three(const struct chart *chart, int first)
+{
+    char due[64] = "";
+    for (int i = 0; i < 3; i++)
+        strcat(due, chart->texts[first + i]);
+    size_t length = strlen(due);
+    for (size_t room = length == 0 ? 0 : length - 1; room <= length + 1; room++) {
+        lend();
+        pv_three_written r = first == 0 ? pv_generate_breakdowns(m, m_length, text, room)
+                                        : pv_stream_breakdowns(m, m_length, text, room);
+        bool accepted = room >= length;
+        expect(r.refused == (accepted ? PV_ACCEPTED : PV_TEXT_TOO_SHORT), "three texts are accepted or refused");
+        for (int i = 0; i < 3; i++)
+            expect(r.lengths[i] == (accepted ? strlen(chart->texts[first + i]) : 0), "lengths of three texts");
+        expect(!accepted || memcmp(text, due, length) == 0, "three texts");
+        expect(wrote(accepted ? length : 0, 0), "three texts leave the rest");
+    }
+}
+
+/* ---- the pass */
+
+static bool same_counts(pv_counts a, pv_counts b)
+{
+    return memcmp(&a, &b, sizeof a) == 0;
+}
+
+static void check_pass(const struct chart *chart, pv_outputs r)
+{
+    struct token tokens[6];
+    size_t count = tokens_of(chart, tokens, true);
+    expect(r.refused == PV_ACCEPTED, "the pass is accepted");
+    expect(same_counts(r.counts, chart->counts), "counts of the pass");
+    expect(r.tokens == count, "number of tokens");
+    for (size_t i = 0; i < count; i++)
+        expect(classes[i] == tokens[i].class_number && lengths[i] == tokens[i].length, "a token of the pass");
+    const uint8_t *at = text;
+    for (int i = 0; i < 6; i++) {
+        expect(same_text(at, r.lengths[i], chart->texts[i]), "a text of the pass");
+        at += r.lengths[i];
+    }
+    expect(wrote((size_t)(at - text), count), "the pass leaves the rest");
+}
+
+static void check_refused_pass(pv_outputs r, uint32_t number)
+{
+    pv_counts none = {0, 0, 0, 0, 0, 0};
+    expect(r.refused == number && same_counts(r.counts, none) && r.tokens == 0, "a refused pass");
+    for (int i = 0; i < 6; i++)
+        expect(r.lengths[i] == 0, "a refused pass has no lengths");
+    expect(wrote(0, 0), "a refused pass writes nothing");
+}
+
+static pv_outputs pass(size_t class_places, size_t length_places, size_t room)
+{
+    lend();
+    return pv_compute_stream_outputs(m, m_length, classes, class_places, lengths, length_places, text, room);
+}
+
+static void test_pass(const struct chart *chart)
+{
+    struct token tokens[6];
+    size_t count = tokens_of(chart, tokens, true);
+    size_t due = 0;
+    for (int i = 0; i < 6; i++)
+        due += strlen(chart->texts[i]);
+    check_pass(chart, pass(count, count, due));
+    check_pass(chart, pass(count + 1, count + 2, due + 3));
+    check_pass(chart, pass(m_length, m_length, 17 * m_length + 33));
+    if (count != 0) {
+        check_refused_pass(pass(count - 1, count, due), PV_TOO_FEW_TOKENS);
+        check_refused_pass(pass(count, count - 1, due), PV_TOO_FEW_TOKENS);
+        check_refused_pass(pass(0, 0, 0), PV_TOO_FEW_TOKENS);
+    }
+    check_refused_pass(pass(count, count, due - 1), PV_TEXT_TOO_SHORT);
+}
+
+/* ---- what is read off a chart */
+
+static void test_counts(const struct chart *chart)
+{
+    pv_counts_answer r = pv_compute_stream_counts(m, m_length);
+    expect(r.refused == PV_ACCEPTED && same_counts(r.counts, chart->counts), "counts");
+    const pv_counts *c = &chart->counts;
+    uint32_t streams = c->run16_streams + c->run20_streams + c->run24_streams + c->run32_streams;
+    pv_share_answer s = pv_share(m, m_length);
+    if (streams == 0)
+        expect(s.refused == PV_NO_STREAM_MEASURE && s.share == 0, "share without a stream measure");
+    else
+        expect(s.refused == PV_ACCEPTED && s.share == 10000 * streams / (streams + c->total_breaks), "share");
+}
+
+static void test_active_range(void)
+{
+    size_t first = 0;
+    size_t end = m_length;
+    while (first < m_length && m[first] < 16)
+        first++;
+    while (end > first && m[end - 1] < 16)
+        end--;
+    pv_range r = pv_active_range(m, m_length);
+    expect(r.length == end - first && (r.length == 0 || r.start == first), "active part");
+    expect(r.start + r.length <= m_length, "the active part lies in the measures");
+}
+
+static void test_tokens(const struct chart *chart)
+{
+    struct token tokens[6];
+    size_t count = tokens_of(chart, tokens, false);
+    size_t passed = 0;
+    for (size_t k = 0; k < count + 2; k++) {
+        pv_nth_token_answer nth = pv_nth_token(m, m_length, k);
+        pv_nth_token_answer step = pv_nth_token(m + passed, m_length - passed, 0);
+        bool ended = k >= count;
+        uint8_t class_number = ended ? 0 : tokens[k].class_number;
+        uint32_t length = ended ? 0 : tokens[k].length;
+        expect(nth.refused == PV_ACCEPTED && nth.token.ended == ended, "a token, or ended");
+        expect(nth.token.class_number == class_number && nth.token.length == length, "a token's class and length");
+        expect(memcmp(&nth.token.length, &step.token.length, 4) == 0 && step.token.ended == ended &&
+                   step.token.class_number == class_number && step.refused == PV_ACCEPTED,
+               "a step from what is left");
+        passed += step.token.length;
+    }
+}
+
+static size_t expected_segments(pv_segment *due)
+{
+    size_t count = 0;
+    bool streams = pv_active_range(m, m_length).length != 0;
+    for (size_t at = 0, end; streams && at < m_length; at = end) {
+        for (end = at + 1; end < m_length && (m[end] < 16) == (m[at] < 16); end++)
+            ;
+        if (m[at] >= 16 || end - at >= 2) {
+            due[count].start = at;
+            due[count].end = end;
+            due[count++].is_break = m[at] < 16;
+        }
+    }
+    return count;
+}
+
+static bool same_segment(pv_segment a, pv_segment b)
+{
+    return a.start == b.start && a.end == b.end && a.is_break == b.is_break;
+}
+
+static void test_segments(void)
+{
+    pv_segment due[8];
+    const pv_segment none = {0, 0, false};
+    size_t count = expected_segments(due);
+    for (size_t k = 0; k < count + 2; k++) {
+        pv_nth_segment r = pv_segment_at(m, m_length, k);
+        expect(r.refused == PV_ACCEPTED && r.found == (k < count), "is there a segment?");
+        expect(same_segment(r.segment, k < count ? due[k] : none), "segment by number");
+    }
+    for (size_t places = 0; places < count + 3; places++) {
+        lend();
+        pv_segments_answer r = pv_stream_sequences(m, m_length, segments, places);
+        bool accepted = places >= count;
+        expect(r.refused == (accepted ? PV_ACCEPTED : PV_TOO_FEW_SEGMENTS), "segments are accepted or refused");
+        expect(r.count == (accepted ? count : 0), "number of segments");
+        for (size_t k = 0; accepted && k < count; k++)
+            expect(same_segment(segments[k], due[k]), "a segment");
+        expect(wrote_segments(accepted ? count : 0), "segments leave the rest");
+    }
+}
+
+static void test_alike(const struct chart *chart)
+{
+    static uint32_t other[MOST];
+    size_t other_length = m_length;
+    memcpy(other, m, sizeof m);
+    for (const struct chart *second = charts; second < charts + CHARTS; second++) {
+        load(second);
+        pv_alike_answer r = pv_alike(other, other_length, m, m_length);
+        expect(r.refused == PV_ACCEPTED && r.alike == (strcmp(chart->texts[3], second->texts[3]) == 0), "alike");
+    }
+    load(chart);
+}
+
+static void test_label(const struct chart *chart)
+{
+    for (size_t width = 0; width < 14; width++) {
+        int level = 1;
+        while (level < 5 && strlen(chart->texts[2 + level]) > width)
+            level++;
+        lend();
+        pv_label_written r = pv_label(m, m_length, text, MOST, width);
+        if (level == 5) {
+            expect(r.refused == PV_NO_LEVEL_FITS && r.level == 0 && r.length == 0 && wrote(0, 0), "no level fits");
+            continue;
+        }
+        const char *due = chart->texts[2 + level];
+        expect(r.refused == PV_ACCEPTED && r.level == (uint32_t)level, "the label's level");
+        expect(same_text(text, r.length, due) && wrote(strlen(due), 0), "the label's text");
+        lend();
+        r = pv_label(m, m_length, text, strlen(due) - 1, width);
+        expect(r.refused == PV_TEXT_TOO_SHORT && r.level == 0 && r.length == 0 && wrote(0, 0), "a short label");
+    }
+}
+
+static void test_chart(const struct chart *chart)
+{
+    load(chart);
+    for (int kind = 0; kind < 7; kind++)
+        test_text(chart, kind);
+    test_three(chart, 0);
+    test_three(chart, 3);
+    test_pass(chart);
+    test_counts(chart);
+    test_active_range();
+    test_tokens(chart);
+    test_segments();
+    test_alike(chart);
+    test_label(chart);
+}
+
+/* ---- calls on no chart */
+
+static void test_numbers(void)
+{
+    const uint64_t numbers[] = {0, 9, 10, 99, 100, 4294967295u, 4294967296u, 9999999999999999999u, 10000000000000000000u, UINT64_MAX};
+    chart_name = "none: numbers";
+    for (size_t i = 0; i < sizeof numbers / sizeof numbers[0]; i++) {
+        char due[32];
+        size_t length = (size_t)sprintf(due, "%llu", (unsigned long long)numbers[i]);
+        lend();
+        pv_written r = pv_push_u64(text, length, numbers[i]);
+        expect(r.refused == PV_ACCEPTED && same_text(text, r.length, due) && wrote(length, 0), "a number");
+        lend();
+        r = pv_push_u64(text, length - 1, numbers[i]);
+        expect(r.refused == PV_TEXT_TOO_SHORT && r.length == 0 && wrote(0, 0), "a number in too few bytes");
+    }
+}
+
+static void test_run_symbols(void)
+{
+    static const char signs[] = {' ', ' ', '~', '\\', '='};
+    chart_name = "none: run symbols";
+    for (uint32_t class_number = 0; class_number < 7; class_number++) {
+        for (int star = 0; star < 2; star++) {
+            char due[32];
+            bool bare = class_number == PV_RUN16;
+            char sign[2] = {class_number < 5 && !bare ? signs[class_number] : '\0', '\0'};
+            sprintf(due, "%s%llu%s%s", sign, (unsigned long long)UINT64_MAX, sign, star ? "*" : "");
+            lend();
+            pv_written r = pv_format_run_symbol(text, MOST, class_number, UINT64_MAX, star);
+            if (class_number == PV_BREAK || class_number > PV_RUN32) {
+                expect(r.refused == PV_NO_STREAM_CLASS && r.length == 0 && wrote(0, 0), "no stream class");
+                continue;
+            }
+            expect(r.refused == PV_ACCEPTED && same_text(text, r.length, due) && wrote(strlen(due), 0), "a run symbol");
+            lend();
+            r = pv_format_run_symbol(text, strlen(due) - 1, class_number, UINT64_MAX, star);
+            expect(r.refused == PV_TEXT_TOO_SHORT && r.length == 0 && wrote(0, 0), "a run symbol in too few bytes");
+        }
+    }
+}
+
+static void test_classes(void)
+{
+    chart_name = "none: classes";
+    const uint32_t densities[] = {0, 15, 16, 19, 20, 23, 24, 31, 32, UINT32_MAX};
+    for (uint32_t i = 0; i < 10; i++)
+        expect(pv_categorize_measure_density(densities[i]) == i / 2, "a class");
+}
+
+static void test_numbers_that_stand_for_none(void)
+{
+    load(&charts[CHARTS - 1]);
+    const uint32_t modes[] = {3, 4, 255, UINT32_MAX};
+    const uint32_t levels[] = {0, 5, 256, UINT32_MAX};
+    for (int i = 0; i < 4; i++) {
+        lend();
+        pv_written r = pv_generate_breakdown(m, m_length, text, MOST, modes[i]);
+        expect(r.refused == PV_NO_SUCH_NUMBER && r.length == 0 && wrote(0, 0), "no mode");
+        r = pv_stream_breakdown(m, m_length, text, MOST, levels[i]);
+        expect(r.refused == PV_NO_SUCH_NUMBER && r.length == 0 && wrote(0, 0), "no level");
+    }
+}
+
+static void test_label_pair(void)
+{
+    chart_name = "none: label pair";
+    const uint8_t first[] = {'f', 'i', 'r', 's', 't'};
+    const uint8_t second[] = {'t', 'w', 'o'};
+    for (size_t width = 0; width < 7; width++) {
+        pv_pair_part r = pv_label_pair(first, 5, second, 3, width);
+        bool fits_second = width >= 3 && width < 5;
+        size_t length = width >= 5 ? 5 : fits_second ? 3 : 0;
+        expect(r.second == fits_second && r.length == length, "label pair");
+    }
+    pv_pair_part r = pv_label_pair(first, 5, second, 0, 4);
+    expect(r.second && r.length == 0, "an empty second text fits");
+}
+
+/* ---- the chart record */
+
+static void check_record(const uint8_t *bytes, size_t length, size_t places, uint32_t number)
+{
+    lend();
+    pv_record_answer r = pv_read_chart_record(bytes, length, lengths, places);
+    bool accepted = number == PV_ACCEPTED;
+    expect(r.refused == number && r.measures == (accepted ? 9 : 0), "a record is accepted or refused");
+    expect(r.name_start == (accepted ? 3 : 0) && r.name_length == (accepted ? 1 : 0), "the name's place");
+    expect(wrote(0, 0) || accepted, "a refused record writes nothing");
+    expect(!accepted || left_over(length_area, sizeof length_area, 4, 9), "a record leaves the rest");
+}
+
+static void test_record(void)
+{
+    const uint8_t bytes[] = {1, 0, 1, 0x41, 2, 0, 9, 0x10, 0x10, 0, 0x14, 0x14, 0, 0, 0, 0x10};
+    uint8_t changed[sizeof bytes];
+    chart_name = "12, as a record";
+    check_record(bytes, sizeof bytes, 8, PV_TOO_FEW_DENSITIES);
+    check_record(bytes, sizeof bytes, 10, PV_ACCEPTED);
+    check_record(bytes, sizeof bytes, 9, PV_ACCEPTED);
+    load(&charts[CHARTS - 1]);
+    expect(memcmp(lengths, m, 9 * sizeof m[0]) == 0, "a record's densities");
+    check_record(bytes, sizeof bytes - 1, 9, PV_FIELD_CUT_SHORT);
+    check_record(bytes, 0, 9, PV_NAME_NOT_FIRST);
+    memcpy(changed, bytes, sizeof bytes);
+    changed[4] = 3;
+    check_record(changed, sizeof bytes, 9, PV_UNKNOWN_TAG);
+    changed[4] = 2;
+    changed[3] = 0x1F;
+    check_record(changed, sizeof bytes, 9, PV_BAD_NAME);
+}
+
+/* ---- the domain's edge */
+
+static void test_domain(size_t measures)
+{
+    uint32_t *chart = malloc(measures * sizeof *chart);
+    uint32_t number = measures > PV_MOST_MEASURES ? PV_TOO_MANY_MEASURES : PV_ACCEPTED;
+    chart_name = "of the domain's edge";
+    for (size_t i = 0; i < measures; i++)
+        chart[i] = 16;
+    uint32_t few = (uint32_t)(number == PV_ACCEPTED ? measures : 0);
+    lend();
+    pv_outputs r = pv_compute_stream_outputs(chart, measures, classes, 1, lengths, 1, text, MOST);
+    expect(r.refused == number && r.counts.run16_streams == few && r.tokens == (few != 0), "the pass");
+    expect(few != 0 || wrote(0, 0), "the refused pass writes nothing");
+    pv_counts_answer c = pv_compute_stream_counts(chart, measures);
+    expect(c.refused == number && c.counts.run16_streams == few, "counts");
+    expect(pv_share(chart, measures).refused == number, "share");
+    expect(pv_alike(chart, measures, m, m_length).refused == number, "alike, first");
+    expect(pv_alike(m, m_length, chart, measures).refused == number, "alike, second");
+    expect(pv_segment_at(chart, measures, 0).refused == number, "segment by number");
+    expect(pv_stream_sequences(chart, measures, segments, 1).refused == number, "segments");
+    expect(pv_nth_token(chart, measures, 0).refused == number, "token");
+    expect(pv_generate_breakdown(chart, measures, text, MOST, 2).refused == number, "SN text");
+    expect(pv_stream_breakdown(chart, measures, text, MOST, 4).refused == number, "standard text");
+    expect(pv_generate_breakdowns(chart, measures, text, MOST).refused == number, "SN texts");
+    expect(pv_stream_breakdowns(chart, measures, text, MOST).refused == number, "standard texts");
+    expect(pv_label(chart, measures, text, MOST, 11).refused == number, "label");
+    expect(pv_active_range(chart, measures).length == measures, "active part");
+    free(chart);
+}
+
+int main(void)
+{
+    for (const struct chart *chart = charts; chart < charts + CHARTS; chart++)
+        test_chart(chart);
+    test_numbers();
+    test_run_symbols();
+    test_classes();
+    test_numbers_that_stand_for_none();
+    test_label_pair();
+    test_record();
+    test_domain(PV_MOST_MEASURES - 1);
+    test_domain(PV_MOST_MEASURES);
+    test_domain(PV_MOST_MEASURES + 1);
+    printf("c: %zu checks, %zu failed\n", checks, failures);
+    return failures != 0;
+}

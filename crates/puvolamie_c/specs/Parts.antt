@@ -1,0 +1,28 @@
+-- A part of a lent slice as C is told it: by its place and length, since no exported function gives back a reference.
+-- Assumes nothing.
+use Prim.Native.Nat.{ℕ}
+use mathlib.Core.Bool.{true, false, cond}
+use mathlib.Core.List.{List}
+use lib.Dec.{leb}
+use lib.ListN.{length, take, drop}
+use Rattle.rules.specs.Chart.{classes, leadIn, active}
+use Rattle.puvolamie_c.specs.declared.charts.ActiveRange.{ActiveRange}
+use Rattle.puvolamie_c.specs.declared.texts.PairPart.{PairPart}
+
+-- Active part: the measures before it, and its length
+abbrev pub activeRange : List ℕ → ActiveRange
+activeRange m = record { start = leadIn (classes m); length = length (active (classes m)) }
+
+-- the measures that a range marks off
+abbrev pub within : ActiveRange → List ℕ → List ℕ
+within r m = take (r .length) (drop (r .start) m)
+
+-- Pair form of label, by the two lengths: the first text if it fits, else the second if it fits, else the empty beginning of the first
+abbrev pub pairPart : ℕ → ℕ → ℕ → PairPart
+pairPart a b width =
+    cond (leb a width) (record { second = false; length = a })
+    (cond (leb b width) (record { second = true; length = b }) (record { second = false; length = 0 }))
+
+-- the bytes that such a part marks off
+abbrev pub shown : PairPart → List ℕ → List ℕ → List ℕ
+shown r first second = take (r .length) (cond (r .second) second first)

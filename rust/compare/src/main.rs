@@ -1,0 +1,180 @@
+//! Compares the crate with the unchanged original: counts, segments, tokens and the seven texts by every call, and the places
+//! of lent slices that must not change.
+//!
+//! compare [--quick] [SEED]
+
+mod charts;
+mod guarded;
+mod lent;
+#[path = "../../../judge/src/math.rs"]
+mod math;
+mod numbers;
+mod original;
+mod owned;
+mod random;
+#[path = "../../../judge/src/streams.rs"]
+mod streams;
+mod tally;
+
+use original::Original;
+use random::Random;
+use std::process::ExitCode;
+use std::time::Instant;
+use tally::{Outcome, Tally};
+
+/// How much is compared: small charts by their length, random charts by their number, and long charts of each length. Every
+/// `lent_every`th random chart, and small charts of up to `small_lent` measures, are given lent slices of many lengths.
+struct Extent {
+    small: usize,
+    small_lent: usize,
+    shaped: u64,
+    scattered: u64,
+    lent_every: u64,
+    long: usize,
+}
+
+const FULL: Extent = Extent {
+    small: 7,
+    small_lent: 5,
+    shaped: 1_000_000,
+    scattered: 500_000,
+    lent_every: 10,
+    long: 7,
+};
+
+const QUICK: Extent = Extent {
+    small: 5,
+    small_lent: 3,
+    shaped: 30_000,
+    scattered: 20_000,
+    lent_every: 20,
+    long: 2,
+};
+
+/// The lent slices that a chart is given.
+#[derive(Clone, Copy)]
+enum Lends {
+    None,
+    AroundDue,
+    JustDue,
+}
+
+impl Lends {
+    fn around_if(holds: bool) -> Lends {
+        if holds {
+            Lends::AroundDue
+        } else {
+            Lends::None
+        }
+    }
+}
+
+fn main() -> ExitCode {
+    let words: Vec<String> = std::env::args().skip(1).collect();
+    let quick = words.iter().any(|word| word == "--quick");
+    let seed = words.iter().find_map(|word| word.parse().ok()).unwrap_or(1);
+    let start = Instant::now();
+    let mut tally = Tally::default();
+    let outcome = compare(if quick { &QUICK } else { &FULL }, seed, &mut tally);
+    println!(
+        "{} charts, {} comparisons, seed {seed}, {:.1} s",
+        tally.charts,
+        tally.comparisons,
+        start.elapsed().as_secs_f64()
+    );
+    match outcome {
+        Ok(()) => ExitCode::SUCCESS,
+        Err(difference) => {
+            println!("DIFFERENCE: {difference}");
+            ExitCode::FAILURE
+        }
+    }
+}
+
+fn compare(extent: &Extent, seed: u64, tally: &mut Tally) -> Outcome {
+    numbers::compare(tally)?;
+    say(tally, "numbers and run symbols");
+    small_charts(extent, tally)?;
+    say(
+        tally,
+        &format!("all charts of up to {} measures", extent.small),
+    );
+    let random = &mut Random::new(seed);
+    let shaped = || charts::shaped(random);
+    random_charts(extent.shaped, extent.lent_every, shaped, tally)?;
+    say(tally, "random charts of runs and gaps at every boundary");
+    let scattered = || charts::scattered(random);
+    random_charts(extent.scattered, extent.lent_every, scattered, tally)?;
+    say(
+        tally,
+        "random charts of up to 12 measures at the class edges",
+    );
+    domain_edge(extent, random, tally)?;
+    say(tally, "charts at the domain's edge");
+    Ok(())
+}
+
+fn say(tally: &Tally, what: &str) {
+    println!(
+        "{what}: {} charts, {} comparisons so far",
+        tally.charts, tally.comparisons
+    );
+}
+
+fn chart(m: &[usize], lends: Lends, tally: &mut Tally) -> Outcome {
+    tally.charts += 1;
+    let original = Original::of(m)?;
+    let lent = |tally: &mut Tally| match lends {
+        Lends::None => Ok(()),
+        Lends::AroundDue => lent::compare(m, &original, tally),
+        Lends::JustDue => lent::compare_just_due(m, &original, tally),
+    };
+    owned::compare(m, &original, tally)
+        .and_then(|()| lent(tally))
+        .map_err(|difference| format!("{difference}\nin the chart {}", charts::described(m)))
+}
+
+fn small_charts(extent: &Extent, tally: &mut Tally) -> Outcome {
+    for length in 0..=extent.small {
+        let lends = Lends::around_if(length <= extent.small_lent);
+        for number in 0..charts::small_count(length) {
+            chart(&charts::small(length, number), lends, tally)?;
+        }
+    }
+    Ok(())
+}
+
+fn random_charts(
+    count: u64,
+    lent_every: u64,
+    mut next: impl FnMut() -> Vec<usize>,
+    tally: &mut Tally,
+) -> Outcome {
+    for i in 0..count {
+        chart(&next(), Lends::around_if(i % lent_every == 0), tally)?;
+    }
+    Ok(())
+}
+
+/// As long as the domain allows, and one measure more, which every call refuses.
+fn domain_edge(extent: &Extent, random: &mut Random, tally: &mut Tally) -> Outcome {
+    for length in [1_048_575, 1_048_576] {
+        for m in charts::long(random, length)
+            .into_iter()
+            .rev()
+            .take(extent.long)
+        {
+            chart(&m, Lends::JustDue, tally)?;
+        }
+    }
+    for m in charts::long(random, 1_048_577)
+        .into_iter()
+        .rev()
+        .take(extent.long)
+    {
+        tally.charts += 1;
+        owned::compare_refused(&m, tally)?;
+        lent::compare_refused(&m, tally)?;
+    }
+    Ok(())
+}

@@ -1,0 +1,174 @@
+//! The paper's charts, through the functions with the original's names.
+
+use crate::*;
+
+/// Stretches (density, measures), counts in the original's order, and the seven texts, Total last.
+struct Chart {
+    stretches: &'static [(usize, usize)],
+    counts: [u32; 6],
+    texts: [&'static str; 7],
+}
+
+const NONE: &str = "No Streams!";
+
+#[rustfmt::skip]
+const CHARTS: [Chart; 13] = [
+    Chart { stretches: &[], counts: [0; 6], texts: ["", "", "", NONE, NONE, NONE, NONE] },
+    Chart { stretches: &[(15, 1)], counts: [0; 6], texts: ["", "", "", NONE, NONE, NONE, NONE] },
+    Chart { stretches: &[(16, 1)], counts: [1, 0, 0, 0, 0, 0], texts: ["1", "1", "1", "1", "1", "1", "1 Total"] },
+    Chart { stretches: &[(19, 1), (20, 1)], counts: [1, 1, 0, 0, 0, 0], texts: ["1 ~1~", "1 ~1~", "1 ~1~", "2", "2", "2", "2 Total"] },
+    Chart { stretches: &[(16, 1), (0, 1), (16, 1)], counts: [2, 0, 0, 0, 0, 1], texts: ["1 1", "3*", "3*", "1-1", "1-1", "3*", "2 Total"] },
+    Chart { stretches: &[(16, 1), (0, 4), (16, 1)], counts: [2, 0, 0, 0, 4, 4], texts: ["1 (4) 1", "1 - 1", "6*", "1 (4) 1", "1-1", "1-1", "2 Total"] },
+    Chart { stretches: &[(16, 1), (0, 5), (16, 1)], counts: [2, 0, 0, 0, 5, 5], texts: ["1 (5) 1", "1 / 1", "1 / 1", "1 (5) 1", "1/1", "1/1", "2 Total"] },
+    Chart { stretches: &[(16, 1), (0, 32), (16, 1)], counts: [2, 0, 0, 0, 32, 32], texts: ["1 (32) 1", "1 / 1", "1 / 1", "1 (32) 1", "1 | 1", "1 | 1", "2 Total"] },
+    Chart { stretches: &[(16, 1), (0, 33), (16, 1)], counts: [2, 0, 0, 0, 33, 33], texts: ["1 (33) 1", "1 | 1", "1 | 1", "1 (33) 1", "1 | 1", "1 | 1", "2 Total"] },
+    Chart { stretches: &[(32, 1), (0, 2), (16, 1)], counts: [1, 0, 0, 1, 2, 2], texts: ["=1= (2) 1", "=1= - 1", "=3=* 1", "1 (2) 1", "1-1", "1-1", "2 Total"] },
+    Chart { stretches: &[(0, 2), (16, 1)], counts: [1, 0, 0, 0, 2, 0], texts: ["1", "1", "1", "1", "1", "1", "1 Total"] },
+    Chart { stretches: &[(0, 1), (16, 1)], counts: [1, 0, 0, 0, 0, 0], texts: ["1", "1", "1", "1", "1", "1", "1 Total"] },
+    Chart { stretches: &[(16, 2), (0, 1), (20, 2), (0, 3), (16, 1)], counts: [3, 2, 0, 0, 3, 4], texts: ["2 ~2~ (3) 1", "2 ~2~ - 1", "2 ~5~* 1", "2-2 (3) 1", "2-2-1", "5*-1", "5 Total"] },
+];
+
+fn measures(chart: &Chart) -> Vec<usize> {
+    let stretches = chart.stretches.iter();
+    stretches
+        .flat_map(|&(density, count)| vec![density; count])
+        .collect()
+}
+
+fn counts([run16, run20, run24, run32, total_breaks, sn_breaks]: [u32; 6]) -> StreamCounts {
+    StreamCounts {
+        run16_streams: run16,
+        run20_streams: run20,
+        run24_streams: run24,
+        run32_streams: run32,
+        total_breaks,
+        sn_breaks,
+    }
+}
+
+fn owned(texts: &[&str]) -> Texts {
+    (texts[0].into(), texts[1].into(), texts[2].into())
+}
+
+#[test]
+fn texts_and_counts_of_the_paper() {
+    let modes = [
+        BreakdownMode::Detailed,
+        BreakdownMode::Partial,
+        BreakdownMode::Simplified,
+    ];
+    let levels = [
+        StreamBreakdownLevel::Detailed,
+        StreamBreakdownLevel::Partial,
+        StreamBreakdownLevel::Simple,
+        StreamBreakdownLevel::Total,
+    ];
+    for chart in &CHARTS {
+        let m = measures(chart);
+        let (sn, standard) = (owned(&chart.texts[..3]), owned(&chart.texts[3..6]));
+        let expected = counts(chart.counts);
+        assert_eq!(compute_stream_counts(&m), Ok(expected));
+        assert_eq!(generate_breakdowns(&m), Ok(sn.clone()));
+        assert_eq!(stream_breakdowns(&m), Ok(standard.clone()));
+        assert_eq!(compute_stream_outputs(&m), Ok((expected, sn, standard)));
+        for (mode, text) in modes.into_iter().zip(chart.texts) {
+            assert_eq!(generate_breakdown(&m, mode).as_deref(), Ok(text));
+        }
+        for (level, text) in levels.into_iter().zip(&chart.texts[3..]) {
+            assert_eq!(stream_breakdown(&m, level).as_deref(), Ok(*text));
+        }
+    }
+}
+
+#[test]
+fn tokens_and_segments_of_case_12() {
+    let m = measures(&CHARTS[12]);
+    let mut tokens = Vec::new();
+    compute_stream_outputs_with_scratch(&m, &mut tokens).unwrap();
+    let due = [
+        Token::Run(RunDensity::Run16, 2),
+        Token::Break(1),
+        Token::Run(RunDensity::Run20, 2),
+        Token::Break(3),
+        Token::Run(RunDensity::Run16, 1),
+    ];
+    assert_eq!(tokens, due);
+    let segment = |start, end, is_break| StreamSegment {
+        start,
+        end,
+        is_break,
+    };
+    let segments = vec![
+        segment(0, 2, false),
+        segment(3, 5, false),
+        segment(5, 8, true),
+        segment(8, 9, false),
+    ];
+    assert_eq!(stream_sequences(&m), Ok(segments));
+    assert_eq!(lent::share(&densities(&m)), Ok(6250));
+}
+
+#[test]
+fn densities_above_a_u32_keep_their_class() {
+    let wide = u32::MAX as usize + 1;
+    assert_eq!(categorize_measure_density(wide), RunDensity::Run32);
+    assert_eq!(generate_breakdowns(&[wide]).unwrap().0, "=1=");
+    assert_eq!(
+        compute_stream_counts(&[usize::MAX]).unwrap().run32_streams,
+        1
+    );
+}
+
+#[test]
+fn refusals_carry_the_questions_number() {
+    let many = vec![16; MOST_MEASURES + 1];
+    let mut tokens = vec![Token::Break(7)];
+    assert_eq!(
+        compute_stream_outputs_with_scratch(&many, &mut tokens),
+        Err(Refused(1))
+    );
+    assert_eq!(tokens, [Token::Break(7)]);
+    assert_eq!(stream_sequences(&many), Err(Refused(1)));
+    assert_eq!(stream_breakdowns(&many), Err(Refused(1)));
+    assert_eq!(
+        format_run_symbol(RunDensity::Break, 3, false),
+        Err(Refused(5))
+    );
+    assert_eq!(lent::share(&[0, 15]), Err(Refused(7)));
+    assert_eq!(lent::label(&[16], 0, &mut [0; 9]), Err(Refused(6)));
+    assert_eq!(lent::push_u64(&mut [0; 2], 100), Err(Refused(4)));
+    let number = Refused(5).to_string();
+    assert_eq!(number, "refused 5: a stream class for a run symbol?");
+}
+
+#[test]
+fn numbers_and_run_symbols() {
+    let mut out = String::from("n ");
+    push_u64(&mut out, u64::MAX);
+    assert_eq!(out, "n 18446744073709551615");
+    let symbol = format_run_symbol(RunDensity::Run24, usize::MAX, true);
+    assert_eq!(symbol.as_deref(), Ok("\\18446744073709551615\\*"));
+}
+
+#[test]
+fn record_view_and_label_of_case_12() {
+    let record = [1, 0, 1, 0x41, 2, 0, 9, 16, 16, 0, 20, 20, 0, 0, 0, 16];
+    let mut m = [7; 10];
+    let read = lent::ChartRecord {
+        measures: 9,
+        name_start: 3,
+        name_length: 1,
+    };
+    assert_eq!(lent::read_chart_record(&record, &mut m), Ok(read));
+    assert_eq!(m, [16, 16, 0, 20, 20, 0, 0, 0, 16, 7]);
+    let m = &m[..9];
+    assert_eq!(lent::active_range(m), m);
+    assert_eq!(lent::stream_tokens(m).unwrap().count(), 5);
+    let mut out = [0; 16];
+    assert_eq!(
+        lent::label(m, 5, &mut out),
+        Ok((StreamBreakdownLevel::Partial, 5))
+    );
+    assert_eq!(&out[..5], b"2-2-1");
+    assert_eq!(lent::label_pair(b"first", b"two", 4), b"two");
+}
