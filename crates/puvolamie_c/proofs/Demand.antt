@@ -6,7 +6,7 @@ use mathlib.Core.List.{List}
 use native.Mathlib.Omega.{arith}
 use Rattle.number.specs.declared.Written.{Written}
 use Rattle.rules.specs.Chart.{classes}
-use Rattle.rules.specs.Reduced.{Kind}
+use Rattle.rules.specs.declared.Kind.{Kind}
 use Rattle.streams.specs.Promises.{Breakdown}
 use Rattle.streams.proofs.Same.{same-breakdown}
 use Rattle.puvolamie_c.specs.Numbers.{Meant, kind, none, OneKind}

@@ -5,7 +5,7 @@ use mathlib.Core.Path.{_≡_, refl}
 use mathlib.Core.Logic.{_⊎_, inl, inr}
 use native.Mathlib.Omega.{arith}
 use borrow.Author.Tests.{ne-eqb}
-use Rattle.rules.specs.Reduced.{sn, standard}
+use Rattle.rules.specs.declared.Kind.the-variants.{Sn as sn, Standard as standard}
 use Rattle.rules.specs.Calls.{levelNumber}
 use Rattle.rules.specs.Chart.{classNumber}
 use Rattle.rules.specs.declared.RunDensity.{RunDensity}

@@ -6,7 +6,8 @@ use mathlib.Core.List.{List, []}
 use lib.Dec.{eqb}
 use Rattle.number.specs.Questions.{OneText}
 use Rattle.number.specs.declared.Written.{Written}
-use Rattle.rules.specs.Reduced.{Kind, sn, standard}
+use Rattle.rules.specs.declared.Kind.{Kind}
+use Rattle.rules.specs.declared.Kind.the-variants.{Sn as sn, Standard as standard}
 use Rattle.rules.specs.declared.RunDensity.{RunDensity}
 use Rattle.rules.specs.declared.RunDensity.the-variants.{Run32, Run24, Run20, Run16, Break}
 use Rattle.rules.specs.declared.BreakdownMode.{BreakdownMode}
