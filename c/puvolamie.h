@@ -140,6 +140,11 @@ typedef struct { /* number of densities, place of the name's first byte in the r
     size_t name_length;
 } pv_record_answer;
 
+typedef struct { /* bytes to print: the first `length` of them */
+    uint8_t bytes[66048];
+    size_t length;
+} pv_sheet;
+
 /* A number in base ten, at most 20 bytes. Question 4. */
 pv_written pv_push_u64(uint8_t *out, size_t out_length, uint64_t n);
 
@@ -200,6 +205,10 @@ pv_pair_part pv_label_pair(
 /* A chart record: its densities, and where its name stands. Questions 8, 9, 10, 11 field by field, then 1, 12. */
 pv_record_answer pv_read_chart_record(
     const uint8_t *bytes, size_t bytes_length, uint32_t *densities, size_t densities_length);
+
+/* What the program `sheet` prints for a chart record: name, counts, the six texts of the pass and Total, a line each; or the only
+ * line "refused N". Question 13 (at most 16,384 bytes), those of the record, of the pass and of Total. The answer is large. */
+pv_sheet pv_print_sheet(const uint8_t *bytes, size_t bytes_length);
 
 #ifdef __cplusplus
 }

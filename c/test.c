@@ -491,6 +491,26 @@ static void test_record(void)
     check_record(changed, sizeof bytes, 9, PV_BAD_NAME);
 }
 
+/* ---- what `sheet` prints */
+
+static void check_sheet(const uint8_t *bytes, size_t length, const char *printed)
+{
+    pv_sheet r = pv_print_sheet(bytes, length);
+    expect(r.length == strlen(printed) && memcmp(r.bytes, printed, r.length) == 0, "sheet");
+}
+
+static void test_sheet(void)
+{
+    static const uint8_t bytes[] = {1, 0, 1, 'A', 2, 0, 9, 16, 16, 0, 20, 20, 0, 0, 0, 16};
+    static const uint8_t long_input[16385];
+    chart_name = "a record";
+    check_sheet(bytes, sizeof bytes,
+        "A\n3 2 0 0 3 4\n2 ~2~ (3) 1\n2 ~2~ - 1\n2 ~5~* 1\n2-2 (3) 1\n2-2-1\n5*-1\n5 Total\n");
+    check_sheet(bytes, 3, "refused 8\n");
+    check_sheet(bytes, 0, "refused 10\n");
+    check_sheet(long_input, sizeof long_input, "refused 13\n");
+}
+
 /* ---- the domain's edge */
 
 static void test_domain(size_t measures)
@@ -532,6 +552,7 @@ int main(void)
     test_numbers_that_stand_for_none();
     test_label_pair();
     test_record();
+    test_sheet();
     test_domain(PV_MOST_MEASURES - 1);
     test_domain(PV_MOST_MEASURES);
     test_domain(PV_MOST_MEASURES + 1);

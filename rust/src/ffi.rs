@@ -95,6 +95,12 @@ pub struct RecordAnswer {
     pub name_length: usize,
 }
 
+#[repr(C)]
+pub struct Sheet {
+    pub bytes: [u8; 66048],
+    pub length: usize,
+}
+
 /// Declares a call and its safe form: slices first, each passed as pointer and length, then plain values.
 macro_rules! calls {
     ($(fn $name:ident as $symbol:ident(
@@ -135,4 +141,5 @@ calls! {
     fn label as pv_label([m: u32] {out: u8} width: usize) -> LabelWritten;
     fn label_pair as pv_label_pair([first: u8] [second: u8] width: usize) -> PairPart;
     fn read_chart_record as pv_read_chart_record([record: u8] {densities: u32}) -> RecordAnswer;
+    fn print_sheet as pv_print_sheet([record: u8]) -> Sheet;
 }

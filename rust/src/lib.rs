@@ -111,13 +111,13 @@ pub fn compute_stream_outputs_with_scratch(
 /// An SN text.
 pub fn generate_breakdown(measures: &[usize], mode: BreakdownMode) -> Result<String, Refused> {
     let m = densities(measures);
-    text(4 * m.len(), |out| lent::generate_breakdown(&m, mode, out))
+    text(4 * m.len() + 11, |out| lent::generate_breakdown(&m, mode, out))
 }
 
 /// The three SN texts.
 pub fn generate_breakdowns(measures: &[usize]) -> Result<Texts, Refused> {
     let m = densities(measures);
-    let mut out = vec![0; 12 * m.len()];
+    let mut out = vec![0; 12 * m.len() + 33];
     let lengths = lent::generate_breakdowns(&m, &mut out)?;
     Ok(three(&out, &lengths).0)
 }
@@ -128,7 +128,7 @@ pub fn stream_breakdown(
     level: StreamBreakdownLevel,
 ) -> Result<String, Refused> {
     let m = densities(measures);
-    text(3 * m.len() + 11, |out| {
+    text(4 * m.len() + 11, |out| {
         lent::stream_breakdown(&m, level, out)
     })
 }
@@ -136,7 +136,7 @@ pub fn stream_breakdown(
 /// Standard detailed, partial and simple.
 pub fn stream_breakdowns(measures: &[usize]) -> Result<Texts, Refused> {
     let m = densities(measures);
-    let mut out = vec![0; 5 * m.len() + 33];
+    let mut out = vec![0; 12 * m.len() + 33];
     let lengths = lent::stream_breakdowns(&m, &mut out)?;
     Ok(three(&out, &lengths).0)
 }
@@ -147,4 +147,11 @@ pub fn format_run_symbol(cat: RunDensity, len: usize, star: bool) -> Result<Stri
     text(23, |out| {
         lent::format_run_symbol(cat, len as u64, star, out)
     })
+}
+
+/// What the program `sheet` prints for a chart record.
+#[must_use]
+pub fn print_sheet(record: &[u8]) -> Vec<u8> {
+    let sheet = ffi::print_sheet(record);
+    sheet.bytes.iter().copied().take(sheet.length).collect()
 }

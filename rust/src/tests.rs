@@ -161,6 +161,8 @@ fn record_view_and_label_of_case_12() {
     };
     assert_eq!(lent::read_chart_record(&record, &mut m), Ok(read));
     assert_eq!(m, [16, 16, 0, 20, 20, 0, 0, 0, 16, 7]);
+    assert!(print_sheet(&record).starts_with(b"A\n3 2 0 0 3 4\n2 ~2~ (3) 1\n"));
+    assert_eq!(print_sheet(&record[..3]), b"refused 8\n");
     let m = &m[..9];
     assert_eq!(lent::active_range(m), m);
     assert_eq!(lent::stream_tokens(m).unwrap().count(), 5);

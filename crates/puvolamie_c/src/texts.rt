@@ -3,6 +3,8 @@ use number::Written;
 use number::push_u64;
 use rules::BreakdownMode;
 use rules::RunDensity;
+use sheet_lines::Sheet;
+use sheet_lines::print_sheet;
 use streams::LabelWritten;
 use streams::StreamOutputs;
 use streams::ThreeWritten;
@@ -21,6 +23,7 @@ ghost use Rattle.number.specs.Pushed.{Pushed};
 ghost use Rattle.rules.specs.Chart.{classNumber};
 ghost use Rattle.rules.specs.Texts.{snKinds, standardKinds};
 ghost use Rattle.streams.specs.Promises.{RunSymbol, Breakdowns, Label, Outputs};
+ghost use Rattle.sheet_lines.specs.Sheet.{Printed};
 ghost use Rattle.puvolamie_c.specs.Numbers.{classAt, modeNumber, modeKind, levelKind, OneKind};
 ghost use Rattle.puvolamie_c.specs.Parts.{pairPart};
 
@@ -165,4 +168,12 @@ pub extern "C" fn pv_label_pair(first: &[u8], second: &[u8], width: usize) -> Pa
         second: false,
         length: 0,
     }
+}
+
+// What the program `sheet` prints for the bytes `input`.
+#[no_mangle]
+pub extern "C" fn pv_print_sheet(input: &[u8]) -> Sheet
+    ensures { λ r. ⌜ Printed (now (input .entry)) r ⌝ }
+{
+    print_sheet(input)
 }

@@ -9,6 +9,7 @@ ghost use Rattle.sheet_lines.specs.Sheet.{Printed, sheetBytes};
 ghost use Rattle.sheet_lines.specs.Steps.{AtStart, Roomy};
 
 // The bytes to print: the first `length` of `bytes`.
+#[repr(C)]
 pub struct Sheet {
     pub bytes: [u8; 66048],
     pub length: usize,
