@@ -84,7 +84,7 @@ asked : (b : Bool) (x n : ℕ) → cond b x (suc n) ≡ 0 → (b ≡ true) × (x
 asked true x n h = (refl, h)
 asked false x n h = absurd (omega (arith, h))
 
--- slices of k and j bytes that had room
+-- a slice of k bytes that had room
 module _ (m cs ns old : List ℕ) (k : ℕ) (long : length old ≡ k) where
   pass-room : passNo m cs ns old ≡ 0 → (length m ≤ 1048576) × (length (endToEnd passKinds m) ≤ k)
   pass-room h =

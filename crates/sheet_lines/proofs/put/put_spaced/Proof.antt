@@ -1,6 +1,5 @@
 -- `sheet_lines::put::put_spaced` meets its contract.
 -- Assumes nothing.
-use mathlib.Core.List.{_++_}
 use Rattle.number.specs.Digits.{digits}
 use Rattle.rules.specs.Bytes.{bytes}
 use Rattle.number.proofs.Place.{room-first, room-next, wrote}
