@@ -99,53 +99,31 @@ fn put_token(out: &mut [u8], at: usize, class: u8, length: u32) -> usize
     put(out, class_end, b":", length as u64)
 }
 
-// A word, and behind it the segments of `m`.
+// A word, and behind it the segments of `m` as `first_segments` and `segment_at` both have them.
 fn put_segments(out: &mut [u8], at: usize, word: &[u8], m: &[u32]) -> usize
     ensures { λ r. ⌜ Counts r (now (out .exit)) ⌝ }
 {
+    let mut end = put_bytes(out, at, word);
     let places = first_segments(m);
-    let first = places[0];
-    // No segment ends at 0: there is none, or there are more than places.
-    if first.end == 0 {
-        return put_one_by_one(out, at, word, m);
-    }
-    put_places(out, at, word, places)
-}
-
-// A word, and behind it the segments in the places, up to the first that has none.
-fn put_places(out: &mut [u8], at: usize, word: &[u8], places: [StreamSegment; 64]) -> usize
-    ensures { λ r. ⌜ Counts r (now (out .exit)) ⌝ }
-{
-    let mut end = put_bytes(out, at, word);
     let mut k = 0;
+    // No chart of the list has so many.
     while k < 64 {
-        let segment = places[k];
-        if segment.end == 0 {
-            return end;
-        }
-        end = put_segment(out, end, segment.start, segment.end, segment.is_break);
-        k += 1;
-    }
-    end
-}
-
-// A word, and behind it the segments of `m`, each asked for.
-fn put_one_by_one(out: &mut [u8], at: usize, word: &[u8], m: &[u32]) -> usize
-    ensures { λ r. ⌜ Counts r (now (out .exit)) ⌝ }
-{
-    let mut end = put_bytes(out, at, word);
-    let mut k = 0;
-    // A chart has no more segments than measures.
-    while k < m.len() {
         let answer = segment_at(m, k);
+        let segment = answer.segment;
+        if differ(segment, places[k]) {
+            return put_bytes(out, end, b" differs");
+        }
         if !answer.found {
             return end;
         }
-        let segment = answer.segment;
         end = put_segment(out, end, segment.start, segment.end, segment.is_break);
         k += 1;
     }
     end
+}
+
+fn differ(a: StreamSegment, b: StreamSegment) -> bool {
+    a.start != b.start || a.end != b.end || a.is_break != b.is_break
 }
 
 fn put_segment(out: &mut [u8], at: usize, start: usize, end: usize, is_break: bool) -> usize
