@@ -18,6 +18,7 @@ of-charts a b e =
       counts = same-counts a b e;
       share = same-share a b e;
       segmentAt = segments.same-nth a b e;
+      firstSegments = segments.same-placed a b e;
       nthToken = token-view.same-nth a b e;
       segments = λ old new₁ new₂ r₁ r₂ p q. segments.same-segments a b e refl p q;
       tokenView = λ n no₁ no₂ v₁ v₂ t₁ t₂ p q. token-view.same-view a b e p q;
