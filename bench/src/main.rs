@@ -127,12 +127,16 @@ fn row(name: &str, m: &[u32]) {
     );
 }
 
+/// With an argument, only the charts whose name has it.
 fn main() {
     println!("The same tokens, counts and texts on {} charts and on those below.\n", same_on_all());
     println!("ns per measure, best (median) of the rounds; times faster than the Rust.\n");
     println!("| chart | tokens | Rust | roomy slices | faster | tight slices | faster |");
     println!("|---|---|---|---|---|---|---|");
+    let only = std::env::args().nth(1).unwrap_or_default();
     for (name, m) in loads::all() {
-        row(name, &m);
+        if name.contains(&only) {
+            row(name, &m);
+        }
     }
 }
