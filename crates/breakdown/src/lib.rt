@@ -5,4 +5,5 @@ pub mod run;
 pub mod sn;
 mod source;
 pub mod standard;
+pub mod tokens;
 pub mod total;

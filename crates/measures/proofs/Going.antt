@@ -1,11 +1,12 @@
 -- The loop of `runs_into`, as lists: what holds at its head, and what each way through its body does to that. The pending token is written already,
 -- so that no branch decides about a store. Nothing here speaks of code.
 -- Assumes nothing.
-use Prim.Native.Nat.{ℕ, suc, _+_, _<_, _≤_}
+use Prim.Native.Nat.{ℕ, zero, suc, _+_, _-_, _<_, _≤_}
 use mathlib.Core.Path.{_≡_, refl, sym, ap, _∙_}
 use mathlib.Core.Bool.{false}
 use mathlib.Core.Logic.{_≢_}
 use mathlib.Core.List.{List, [], _∷_, _++_, map}
+use native.Mathlib.Nat.{add-zero}
 use native.Mathlib.Numerals.{add-one}
 use native.Mathlib.Omega.{arith}
 use lib.Dec.{eqb}
@@ -13,9 +14,10 @@ use lib.ListN.{length, drop, getD, set, length-append, length-drop, length-map, 
 use lib.Seq.{drop-cons, set-append-seam, append-snoc}
 use Rattle.rules.specs.Chart.{Token, token, class, len, classOf, classes, runsFrom, runs}
 use Rattle.number.proofs.Split.{split}
+use Rattle.rules.proofs.Shape.{class-below}
 use Rattle.rules.proofs.Steps.{run-longer, run-ended}
 use Rattle.number.specs.Questions.{filled}
-use Rattle.measures.specs.Scan.{InSlices}
+use Rattle.measures.specs.Scan.{OfClass, InSlices}
 use Rattle.measures.proofs.Part.{class-of-place}
 
 -- one more element written, and the last one written anew
@@ -33,6 +35,14 @@ map-snoc f (x ∷ ts) t = ap {B = List ℕ} (λ r. f x ∷ r) (map-snoc f ts t)
 pub next : (m : List ℕ) (i : ℕ) → i < length m → drop i (classes m) ≡ classOf (getD m i 0) ∷ drop (suc i) (classes m)
 next m i h = drop-cons (classes m) i 0 (rw length-map h) ∙ rw class-of-place
 
+-- q measures of the pending class
+longer : (m : List ℕ) (c q n i : ℕ) → i + q ≤ length m → ((j : ℕ) → i ≤ j → j < i + q → classOf (getD m j 0) ≡ c) → runsFrom c n (drop i (classes m)) ≡ runsFrom c (n + q) (drop (i + q) (classes m))
+longer m c zero n i h same = simp add-zero
+longer m c (suc q) n i h same =
+    rw (next m i (omega arith), run-longer c n (classOf (getD m i 0)) (drop (suc i) (classes m)) (sym (same i (omega arith) (omega arith))))
+    (longer m c q (suc n) (suc i) (omega arith) (λ j g l. same j (omega arith) (omega arith))
+    ∙ (let e : suc n + q ≡ n + suc q = omega arith in let f : suc i + q ≡ i + suc q = omega arith in rw (e, f)))
+
 some-run : (c n : ℕ) (cs : List ℕ) → 0 < length (runsFrom c n cs)
 some-run c n [] = omega arith
 some-run c n (d ∷ cs) = split (eqb c d) (λ e. rw e (some-run c (suc n) cs)) (λ e. rw e (omega arith))
@@ -48,6 +58,7 @@ pub record Going (m cs₀ ns₀ cs ns : List ℕ) (c n k i : ℕ) : Type 0 where
   pub inClasses : cs ≡ filled cs₀ (map class done ++ (c ∷ []))
   pub inLengths : ns ≡ filled ns₀ (map len done ++ (n ∷ []))
   pub written : k ≡ length done
+  pub small : c ≤ 4
   pub few : k < i
   pub short : n ≤ i
   pub within : i ≤ length m
@@ -81,14 +92,33 @@ module _ {m cs₀ ns₀ cs ns : List ℕ} {c n k i : ℕ} (g : Going m cs₀ ns�
         inLengths = rw (← w, map-snoc) (g .inLengths);
       }
 
+  -- the pending token, written anew
+  again : (f : Token → ℕ) (old new : List ℕ) (v w : ℕ) → new ≡ filled old (map f (g .done) ++ (v ∷ [])) → set new k w ≡ filled old (map f (g .done) ++ (w ∷ []))
+  again f old new v w e = rw (e, g .written, ← (length-map (g .done) f)) (anew old (map f (g .done)) v w)
+
+  -- on to place j, over measures of the pending class
+  pub skipped : {j : ℕ} → OfClass m i c j → Going m cs₀ ns₀ cs (set ns k (n + (j - i))) c (n + (j - i)) k j
+  skipped {j} s =
+      let e : i + (j - i) ≡ j = omega arith in
+      record {
+        done = g .done;
+        whole =
+            ap {B = List Token} (λ ts. g .done ++ ts) (rw e at (sym (longer m c (j - i) n i (omega arith) (λ x h l. s .each x h (omega arith))))) ∙ g .whole;
+        inClasses = g .inClasses;
+        inLengths = again len ns₀ ns n (n + (j - i)) (g .inLengths);
+        written = g .written;
+        small = g .small;
+        few = omega arith;
+        short = omega arith;
+        within = s .within;
+        roomC = g .roomC;
+        roomN = g .roomN;
+      }
+
   -- one more measure
   module _ (h : i < length m) where
     abbrev d : ℕ
     d = classOf (getD m i 0)
-
-    -- the pending token, written anew
-    again : (f : Token → ℕ) (old new : List ℕ) (v w : ℕ) → new ≡ filled old (map f (g .done) ++ (v ∷ [])) → set new k w ≡ filled old (map f (g .done) ++ (w ∷ []))
-    again f old new v w e = rw (e, g .written, ← (length-map (g .done) f)) (anew old (map f (g .done)) v w)
 
     -- .. of the pending class
     pub same : classOf (getD m i 0) ≡ c → Going m cs₀ ns₀ (set cs k d) (set ns k (n + 1)) d (n + 1) k (i + 1)
@@ -99,6 +129,7 @@ module _ {m cs₀ ns₀ cs ns : List ℕ} {c n k i : ℕ} (g : Going m cs₀ ns�
           inClasses = again class cs₀ cs c d (g .inClasses);
           inLengths = again len ns₀ ns n (n + 1) (g .inLengths);
           written = g .written;
+          small = class-below (getD m i 0);
           few = omega arith;
           short = omega arith;
           within = omega arith;
@@ -129,6 +160,7 @@ module _ {m cs₀ ns₀ cs ns : List ℕ} {c n k i : ℕ} (g : Going m cs₀ ns�
             inClasses = beyond class cs₀ cs d (omega arith) (g .inClasses);
             inLengths = beyond len ns₀ ns 1 (omega arith) (g .inLengths);
             written = simp length-append (omega arith);
+            small = class-below (getD m i 0);
             few = omega arith;
             short = omega arith;
             within = omega arith;
@@ -153,6 +185,7 @@ module _ (m cs ns : List ℕ) (h : 0 < length m) (roomC : length (runs (classes 
         inClasses = push cs [] (classOf (getD m 0 0)) (omega arith);
         inLengths = push ns [] 1 (omega arith);
         written = refl;
+        small = class-below (getD m 0 0);
         few = omega arith;
         short = omega arith;
         within = h;

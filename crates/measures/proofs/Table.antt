@@ -1,6 +1,7 @@
 -- The table of classes is right.
 -- Assumes nothing.
 use Prim.Native.Nat.{ℕ, zero, suc, _+_, _≤_, _<_}
+use mathlib.Core.Logic.{_≢_}
 use mathlib.Core.Path.{_≡_, sym, ap, _∙_}
 use native.Mathlib.Nat.{not-suc-le-zero, le-of-suc-le-suc}
 use native.Mathlib.Omega.{arith}
@@ -27,3 +28,7 @@ module _ (t : List ℕ) (x d : ℕ) (e : t ≡ classTable) where
 
   pub above : x ≡ 32 → 32 < d → getD t x 0 ≡ classOf d
   above q h = rw (e, q) (in-table 32 (omega arith) ∙ class-4 32 (omega arith) ∙ sym (class-4 d (omega arith)))
+
+-- the class that is left
+pub fourth : (c : ℕ) → c ≤ 4 → c ≢ 0 → c ≢ 1 → c ≢ 2 → c ≢ 3 → c ≡ 4
+fourth c h n₀ n₁ n₂ n₃ = omega arith

@@ -6,9 +6,9 @@ use mathlib.Core.List.{List}
 use lib.ListN.{length, getD}
 use Rattle.rules.specs.Chart.{classes, leadIn, toLast}
 
--- a place with four measures, and bounds that fit a u32
-pub record Four (m : List ℕ) (i lo more : ℕ) : Type 0 where
-  pub within : i + 4 ≤ length m
+-- a place with n measures, and bounds that fit a u32
+pub record Block (m : List ℕ) (i n lo more : ℕ) : Type 0 where
+  pub within : i + n ≤ length m
   pub fit : lo + more < 2 ^ 32
 
 -- a place of the chart, its end included, and bounds that fit a u32

@@ -1,13 +1,14 @@
 -- What the scan into tokens and the functions below it ask and promise.
 -- Assumes nothing.
-use Prim.Native.Nat.{ℕ, zero, suc, _≤_}
+use Prim.Native.Nat.{ℕ, zero, suc, _+_, _≤_, _<_, _^_}
 use mathlib.Core.Path.{_≡_}
 use mathlib.Core.Bool.{false}
 use mathlib.Core.List.{List, [], _∷_, map}
-use lib.ListN.{length}
+use lib.ListN.{length, getD}
 use Rattle.number.specs.Questions.{filled}
-use Rattle.rules.specs.Chart.{classes, Token, token, class, len, runs, tokens, counts}
+use Rattle.rules.specs.Chart.{classOf, classes, Token, token, class, len, runs, tokens, counts}
 use Rattle.rules.proofs.Cost.{total}
+use Rattle.measures.specs.declared.scan.Bounds.{Bounds}
 use Rattle.measures.specs.declared.scan.ScanAnswer.{ScanAnswer}
 
 -- the n numbers from i on
@@ -18,6 +19,17 @@ upFrom i (suc n) = i ∷ upFrom (suc i) n
 -- the class of each density up to 32
 abbrev pub classTable : List ℕ
 classTable = classes (upFrom 0 33)
+
+-- densities of lo to lo + more are of class c
+pub record Bounded (c : ℕ) (r : Bounds) : Type 0 where
+  pub fit : r .lo + r .more < 2 ^ 32
+  pub same : (d : ℕ) → r .lo ≤ d → d ≤ r .lo + r .more → classOf d ≡ c
+
+-- the measures from `from` up to r are of class c
+pub record OfClass (m : List ℕ) (from c r : ℕ) : Type 0 where
+  pub onward : from ≤ r
+  pub within : r ≤ length m
+  pub each : (i : ℕ) → from ≤ i → i < r → classOf (getD m i 0) ≡ c
 
 -- measures of the domain, a place in both slices for each of their runs, and the table of classes
 pub record Ready (m cs ns table : List ℕ) : Type 0 where

@@ -3,11 +3,11 @@ ghost use mathlib.Core.Path.{_≡_};
 ghost use mathlib.Core.Bool.{true};
 ghost use Prim.Native.Nat.{_+_};
 ghost use Rattle.rules.specs.Chart.{activePart};
-ghost use Rattle.measures.specs.Active.{Four, Bounds, Stretch, LedIn, Ended};
+ghost use Rattle.measures.specs.Active.{Block, Bounds, Stretch, LedIn, Ended};
 
 // Are the four measures from `i` on densities of `lo` to `lo + more`?
 fn four(m: &[u32], i: usize, lo: u32, more: u32) -> bool
-    requires { ⌜ Four (now m) i lo more ⌝ }
+    requires { ⌜ Block (now m) i 4 lo more ⌝ }
     ensures { λ r. ⌜ (r ≡ true → Stretch (now (m .entry)) i lo more (i + 4)) ⌝ }
 {
     let a = std::num::wrapping_sub_u32(m[i], lo);
@@ -17,17 +17,25 @@ fn four(m: &[u32], i: usize, lo: u32, more: u32) -> bool
     (a <= more) & (b <= more) & (c <= more) & (d <= more)
 }
 
-// On from `from`, four measures at a time, while all four are densities of `lo` to `lo + more`.
+// Are the eight?
+fn eight(m: &[u32], i: usize, lo: u32, more: u32) -> bool
+    requires { ⌜ Block (now m) i 8 lo more ⌝ }
+    ensures { λ r. ⌜ (r ≡ true → Stretch (now (m .entry)) i lo more (i + 8)) ⌝ }
+{
+    four(m, i, lo, more) & four(m, i + 4, lo, more)
+}
+
+// On from `from`, eight measures at a time, while all eight are densities of `lo` to `lo + more`.
 pub fn skip(m: &[u32], from: usize, lo: u32, more: u32) -> usize
     requires { ⌜ Bounds (now m) from lo more ⌝ }
     ensures { λ r. ⌜ Stretch (now (m .entry)) from lo more r ⌝ }
 {
     let mut i = from;
-    while i + 4 <= m.len() {
-        if !four(m, i, lo, more) {
+    while i + 8 <= m.len() {
+        if !eight(m, i, lo, more) {
             return i;
         }
-        i += 4;
+        i += 8;
     }
     i
 }

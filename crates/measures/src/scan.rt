@@ -2,6 +2,7 @@
 use crate::active::active_behind;
 use crate::active::active_range;
 use crate::active::lead_in;
+use crate::active::skip;
 use crate::counts::Sums;
 use crate::counts::counted;
 use crate::counts::wide;
@@ -10,10 +11,10 @@ ghost use mathlib.Core.Path.{_≡_};
 ghost use mathlib.Core.Bool.{cond};
 ghost use lib.Dec.{eqb, leb};
 ghost use lib.ListN.{length};
-ghost use Prim.Native.Nat.{_+_, _<_, _^_};
+ghost use Prim.Native.Nat.{_+_, _≤_, _<_, _^_, min};
 ghost use Rattle.rules.specs.Chart.{classOf, classes, runs, tokens};
 ghost use Rattle.measures.specs.Sums.{sumsOf};
-ghost use Rattle.measures.specs.Scan.{classTable, Ready, InSlices, paired, Paired, TokenRoom, Scanned};
+ghost use Rattle.measures.specs.Scan.{classTable, Bounded, OfClass, Ready, InSlices, paired, Paired, TokenRoom, Scanned};
 
 // What the scan answers: the counts and the number of tokens.
 #[repr(C)]
@@ -71,8 +72,47 @@ fn class_at(table: &[u8; 33], d: u32) -> u8
     table[x as usize]
 }
 
-// The longest runs of one class in `m`, into two lent slices. The pending run is written at each measure, so that no branch on the
-// chart's data is needed.
+// A class's least density, and how many it has beyond that.
+struct Bounds {
+    lo: u32,
+    more: u32,
+}
+
+fn bounds_of(class: u8) -> Bounds
+    requires { ⌜ class ≤ 4 ⌝ }
+    ensures { λ r. ⌜ Bounded class r ⌝ }
+{
+    match class {
+        0 => Bounds { lo: 0, more: 15 },
+        1 => Bounds { lo: 16, more: 3 },
+        2 => Bounds { lo: 20, more: 3 },
+        3 => Bounds { lo: 24, more: 7 },
+        _ => Bounds {
+            lo: 32,
+            more: 4294967263,
+        },
+    }
+}
+
+// On from `i` over measures of `class`, eight at a time.
+fn run_on(m: &[u32], i: usize, class: u8) -> usize
+    requires { ⌜ (i ≤ length (now m)) × (class ≤ 4) ⌝ }
+    ensures { λ r. ⌜ OfClass (now (m .entry)) i class r ⌝ }
+{
+    let b = bounds_of(class);
+    skip(m, i, b.lo, b.more)
+}
+
+// One past the 16 measures from `i` on, or past the last of n.
+fn block_end(n: usize, i: usize) -> usize
+    requires { ⌜ i ≤ n ⌝ }
+    ensures { λ r. ⌜ (min (i + 1) n ≤ r) × (r ≤ n) ⌝ }
+{
+    if n - i > 16 { i + 16 } else { n }
+}
+
+// The longest runs of one class in `m`, into two lent slices: over a long run eight measures at a time, then a block where the pending
+// run is written at each measure, so that no branch on the chart's data is needed.
 fn runs_into(m: &[u32], cs: &mut [u8], ns: &mut [u32], table: &[u8; 33]) -> usize
     requires { ⌜ Ready (now m) (now cs) (now ns) (now table) ⌝ }
     ensures { λ r. ⌜ InSlices (runs (classes (now (m .entry)))) r (now (cs .entry)) (now (cs .exit)) (now (ns .entry)) (now (ns .exit)) ⌝ }
@@ -87,16 +127,23 @@ fn runs_into(m: &[u32], cs: &mut [u8], ns: &mut [u32], table: &[u8; 33]) -> usiz
     cs[0] = c;
     ns[0] = 1;
     while i < m.len() {
-        let d = class_at(table, m[i]);
-        n += 1;
-        if d != c {
-            k += 1;
-            n = 1;
-        }
-        c = d;
-        cs[k] = d;
+        let j = run_on(m, i, c);
+        n += (j - i) as u32;
         ns[k] = n;
-        i += 1;
+        i = j;
+        let stop = block_end(m.len(), i);
+        while i < stop {
+            let d = class_at(table, m[i]);
+            n += 1;
+            if d != c {
+                k += 1;
+                n = 1;
+            }
+            c = d;
+            cs[k] = d;
+            ns[k] = n;
+            i += 1;
+        }
     }
     k + 1
 }

@@ -22,8 +22,8 @@ loop-holds c = none _ _ _ _ (omega arith)
 add-loop : tie.Need-add-loop Inv-loop μ-loop
 add-loop c = search needs
 
-four-requires : tie.Need-four-requires Inv-loop μ-loop
-four-requires c κs = search needs
+eight-requires : tie.Need-eight-requires Inv-loop μ-loop
+eight-requires c κs = search needs
 
 returns : tie.Need-returns Inv-loop μ-loop
 returns c = c .before .before .before .loop .inv
@@ -37,7 +37,7 @@ loop-less c = search needs
 loop-again : tie.Need-loop-again Inv-loop μ-loop
 loop-again c =
     let p = c .before .before .before .before .before .args in
-    joined (p .m .now) (p .lo) (p .more) (c .before .before .before .loop .inv) (c .before .four .ensures (not-false _ (c .if1 .left)))
+    joined (p .m .now) (p .lo) (p .more) (c .before .before .before .loop .inv) (c .before .eight .ensures (not-false _ (c .if1 .left)))
 
 returns-2 : tie.Need-returns-2 Inv-loop μ-loop
 returns-2 c = c .before .loop .inv
@@ -50,7 +50,7 @@ skip-spec =
     μ-loop
     loop-holds
     add-loop
-    four-requires
+    eight-requires
     returns
     add-i
     loop-less

@@ -1,0 +1,142 @@
+//! The proved pass beside the unchanged Rust: first that both answer the same, then how long each takes.
+mod loads;
+#[allow(dead_code)]
+#[path = "../../judge/src/math.rs"]
+mod math;
+mod ours;
+#[path = "../../judge/src/streams.rs"]
+mod streams;
+use ours::{Counts, Lent};
+use std::hint::black_box;
+use std::time::Instant;
+use streams::{RunDensity, Token};
+
+fn parts(t: &Token) -> (u8, u32) {
+    match *t {
+        Token::Break(n) => (0, n as u32),
+        Token::Run(RunDensity::Run16, n) => (1, n as u32),
+        Token::Run(RunDensity::Run20, n) => (2, n as u32),
+        Token::Run(RunDensity::Run24, n) => (3, n as u32),
+        Token::Run(_, n) => (4, n as u32),
+    }
+}
+
+/// Both on one chart, with slices just long enough and with roomy ones, whose left-over places must stay as they were.
+/// The number of tokens and of bytes.
+fn same(m: &[u32]) -> (usize, usize) {
+    let wide: Vec<usize> = m.iter().map(|&d| d as usize).collect();
+    let mut tokens = Vec::new();
+    let (c, sn, standard) = streams::compute_stream_outputs_with_scratch(&wide, &mut tokens);
+    let counts = Counts {
+        run16: c.run16_streams,
+        run20: c.run20_streams,
+        run24: c.run24_streams,
+        run32: c.run32_streams,
+        total_breaks: c.total_breaks,
+        sn_breaks: c.sn_breaks,
+    };
+    let texts = [sn.0, sn.1, sn.2, standard.0, standard.1, standard.2];
+    let text = texts.concat();
+    let (k, bytes) = (tokens.len(), text.len());
+    for mut lent in [Lent::new(k, bytes), Lent::roomy(m.len())] {
+        let r = ours::pass(m, &mut lent);
+        assert_eq!((r.refused, r.counts, r.tokens), (0, counts, k));
+        assert!(texts.iter().map(String::len).eq(r.lengths));
+        assert!(&lent.out[..bytes] == text.as_bytes());
+        assert!(lent.out[bytes..].iter().all(|&b| b == 0xAA));
+        let pairs = lent.classes.iter().copied().zip(lent.lengths.iter().copied());
+        assert!(tokens.iter().map(parts).eq(pairs.take(k)));
+        assert!(lent.classes[k..].iter().all(|&c| c == 0xAA));
+        assert!(lent.lengths[k..].iter().all(|&n| n == 0xAAAA));
+    }
+    (k, bytes)
+}
+
+fn same_on_all() -> usize {
+    let mut charts = 0;
+    for n in 0..7u32 {
+        for code in 0..5u32.pow(n) {
+            let m: Vec<u32> = (0..n).map(|i| [0, 16, 20, 24, 32][(code / 5u32.pow(i) % 5) as usize]).collect();
+            same(&m);
+            charts += 1;
+        }
+    }
+    for seed in 0..3000 {
+        same(&loads::load(seed, seed as usize % 200));
+        same(&loads::typical(seed, seed as usize % 400));
+        same(&loads::edges(seed, seed as usize % 120));
+        charts += 3;
+    }
+    charts
+}
+
+/// ns of each: all take turns, and the best and the median of the rounds are given.
+fn times(works: &mut [Box<dyn FnMut() + '_>]) -> Vec<(f64, f64)> {
+    let rounds = 41;
+    let reps: Vec<u64> = works
+        .iter_mut()
+        .map(|f| {
+            f();
+            let t = Instant::now();
+            f();
+            (1_000_000 / t.elapsed().as_nanos().max(1) as u64).clamp(1, 10_000)
+        })
+        .collect();
+    let mut all = vec![Vec::new(); works.len()];
+    for _ in 0..rounds {
+        for (i, f) in works.iter_mut().enumerate() {
+            let t = Instant::now();
+            for _ in 0..reps[i] {
+                f();
+            }
+            all[i].push(t.elapsed().as_nanos() as f64 / reps[i] as f64);
+        }
+    }
+    all.iter_mut()
+        .map(|ts| {
+            ts.sort_by(f64::total_cmp);
+            (ts[0], ts[rounds / 2])
+        })
+        .collect()
+}
+
+fn row(name: &str, m: &[u32]) {
+    let (tokens, bytes) = same(m);
+    let wide: Vec<usize> = m.iter().map(|&d| d as usize).collect();
+    let mut scratch = Vec::new();
+    let mut roomy = Lent::roomy(m.len());
+    let mut tight = Lent::new(tokens, bytes);
+    let t = times(&mut [
+        Box::new(|| {
+            black_box(streams::compute_stream_outputs_with_scratch(black_box(&wide), &mut scratch));
+        }),
+        Box::new(|| {
+            black_box(ours::pass(black_box(m), &mut roomy));
+        }),
+        Box::new(|| {
+            black_box(ours::pass(black_box(m), &mut tight));
+        }),
+    ]);
+    let ns = |x: f64| x / m.len() as f64;
+    let (rust, roomy, tight) = (t[0], t[1], t[2]);
+    println!(
+        "| {name} | {tokens} | {:.2} ({:.2}) | {:.2} ({:.2}) | **{:.2}** ({:.2}) | {:.2} ({:.2}) | **{:.2}** ({:.2}) |",
+        ns(rust.0), ns(rust.1),
+        ns(roomy.0), ns(roomy.1), rust.0 / roomy.0, rust.1 / roomy.1,
+        ns(tight.0), ns(tight.1), rust.0 / tight.0, rust.1 / tight.1,
+    );
+}
+
+/// With an argument, only the charts whose name has it.
+fn main() {
+    println!("The same tokens, counts and texts on {} charts and on those below.\n", same_on_all());
+    println!("ns per measure, best (median) of the rounds; times faster than the Rust.\n");
+    println!("| chart | tokens | Rust | roomy slices | faster | tight slices | faster |");
+    println!("|---|---|---|---|---|---|---|");
+    let only = std::env::args().nth(1).unwrap_or_default();
+    for (name, m) in loads::all() {
+        if name.contains(&only) {
+            row(name, &m);
+        }
+    }
+}
