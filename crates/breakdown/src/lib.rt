@@ -5,5 +5,4 @@ pub mod run;
 pub mod sn;
 mod source;
 pub mod standard;
-pub mod tokens;
 pub mod total;

@@ -17,16 +17,16 @@ ghost use Rattle.breakdown.specs.Source.{Opens, Source};
 ghost use Rattle.breakdown.specs.Sn.{Apart, BeforeBreak, NextGroup, breakText, groupText, lead, snText};
 
 // A run, joined of several if it is starred, the break that is shown behind it (0: none), and the next token's place.
-pub struct Group {
-    pub class: u8,
-    pub length: u64,
-    pub starred: bool,
-    pub gap: u32,
-    pub next: usize,
+struct Group {
+    class: u8,
+    length: u64,
+    starred: bool,
+    gap: u32,
+    next: usize,
 }
 
 // A run that does not join over the break of `n` behind it: a break of 1 is dropped, one up to the limit added, a longer one shown.
-pub fn apart(class: u8, length: u64, starred: bool, limit: u32, n: u32, next: usize) -> Group
+fn apart(class: u8, length: u64, starred: bool, limit: u32, n: u32, next: usize) -> Group
     requires { ⌜ BeforeBreak class length n ⌝ }
     ensures { λ r. ⌜ Apart limit class length starred n next (r .class) (r .length) (r .starred) (r .gap) (r .next) ⌝ }
 {
@@ -122,7 +122,7 @@ fn break_length(limit: u32, n: u32) -> usize
     2
 }
 
-pub fn put_group(out: &mut [u8], at: usize, i: usize, limit: u32, g: Group) -> usize
+fn put_group(out: &mut [u8], at: usize, i: usize, limit: u32, g: Group) -> usize
     requires { ⌜ Room (now out) at (groupText i limit (g .class) (g .length) (g .starred) (g .gap)) ⌝ }
     ensures { λ r. ⌜ Wrote (now (out .entry)) (now (out .exit)) at (groupText i limit (g .class) (g .length) (g .starred) (g .gap)) r ⌝ }
 {

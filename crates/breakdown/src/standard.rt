@@ -20,11 +20,11 @@ ghost use Rattle.breakdown.specs.Source.{Opens, Source};
 ghost use Rattle.breakdown.specs.Standard.{NextPiece, gapText, pieceText, standardText};
 
 // A piece, joined of several if it is starred, the gap behind it (0: none), and the next token's place.
-pub struct Piece {
-    pub length: u64,
-    pub starred: bool,
-    pub gap: u32,
-    pub next: usize,
+struct Piece {
+    length: u64,
+    starred: bool,
+    gap: u32,
+    next: usize,
 }
 
 // The piece that begins at `i`, with all that joins it, and the gap behind it.
@@ -116,7 +116,7 @@ fn gap_length(signs: bool, n: u32) -> usize
     4 + digit_count(n as u64)
 }
 
-pub fn put_piece(out: &mut [u8], at: usize, signs: bool, p: Piece) -> usize
+fn put_piece(out: &mut [u8], at: usize, signs: bool, p: Piece) -> usize
     requires { ⌜ Room (now out) at (pieceText signs (p .length) (p .starred) (p .gap)) ⌝ }
     ensures { λ r. ⌜ Wrote (now (out .entry)) (now (out .exit)) at (pieceText signs (p .length) (p .starred) (p .gap)) r ⌝ }
 {

@@ -1,9 +1,9 @@
 // The pass: tokens, counts and six texts of a chart.
 use crate::StreamOutputs;
 use breakdown::sn::sn_length;
+use breakdown::sn::sn_text;
 use breakdown::standard::standard_length;
-use breakdown::tokens::sn_text;
-use breakdown::tokens::standard_text;
+use breakdown::standard::standard_text;
 use measures::active::active_range;
 use measures::counts::no_counts;
 use measures::scan::scan;
@@ -48,12 +48,13 @@ fn put_texts(m: &[u32], classes: &[u8], lengths: &[u32], out: &mut [u8]) -> [usi
     requires { ⌜ Tokened (now m) (now classes) (now lengths) (now out) ⌝ }
     ensures { λ r. ⌜ SixTexts (now (m .entry)) (now (out .entry)) (now (out .exit)) r ⌝ }
 {
-    let a = sn_text(classes, lengths, 0, out, 0);
-    let b = sn_text(classes, lengths, 1, out, a);
-    let c = sn_text(classes, lengths, 4, out, b);
-    let d = standard_text(classes, lengths, 0, false, out, c);
-    let e = standard_text(classes, lengths, 0, true, out, d);
-    let f = standard_text(classes, lengths, 1, true, out, e);
+    let none = &m[..0];
+    let a = sn_text(none, classes, lengths, 0, out, 0);
+    let b = sn_text(none, classes, lengths, 1, out, a);
+    let c = sn_text(none, classes, lengths, 4, out, b);
+    let d = standard_text(none, classes, lengths, 0, false, out, c);
+    let e = standard_text(none, classes, lengths, 0, true, out, d);
+    let f = standard_text(none, classes, lengths, 1, true, out, e);
     [a, b - a, c - b, d - c, e - d, f - e]
 }
 
