@@ -1,25 +1,35 @@
 -- Demand 2 holds: what a promise says of an accepted call.
 -- Assumes nothing.
-use Prim.Native.Nat.{ℕ, zero, suc}
+use Prim.Native.Nat.{ℕ, zero, suc, _≤_}
 use mathlib.Core.Path.{_≡_, refl, sym, ap, _∙_}
 use mathlib.Core.Bool.{false}
 use mathlib.Core.List.{List, [], _∷_}
 use native.Mathlib.Omega.{arith}
+use lib.Dec.{leb}
 use lib.ListN.{length, replicate}
+use lib.Seq.{take-append-seam}
+use borrow.Author.Tests.{leb-true}
 use Rattle.number.specs.Questions.{firstNo, accepted, filled}
 use Rattle.number.specs.declared.Written.{Written}
-use Rattle.rules.specs.Chart.{inDomain, classes, tokens, counts, noCounts}
+use Rattle.number.proofs.Split.{split}
+use Rattle.rules.specs.Chart.{inDomain, classes, classNumber, tokens, counts, noCounts}
 use Rattle.rules.specs.Texts.{passKinds, lengthsOf}
-use Rattle.rules.specs.Calls.{share, stepAt, labelChoice}
+use Rattle.rules.specs.Calls.{share, stepAt, afterStep, labelChoice}
+use Rattle.rules.specs.declared.RunDensity.{RunDensity}
+use Rattle.rules.specs.declared.RunDensity.the-variants.{Run32, Run24, Run20, Run16, Break}
+use Rattle.rules.proofs.Domain.{within}
+use Rattle.rules.proofs.Steps.{active-part}
 use Rattle.measures.specs.Answers.{hasStream}
-use Rattle.segments.specs.Promises.{refusal}
+use Rattle.segments.specs.Promises.{refusal, noSegment, nthSegment, empties}
 use Rattle.segments.specs.declared.SegmentsAnswer.{SegmentsAnswer}
+use Rattle.segments.specs.declared.NthSegment.{NthSegment}
 use Rattle.record.specs.Record.{fieldsOf, densities, nameOf, recordNo}
 use Rattle.record.specs.declared.RecordAnswer.{RecordAnswer}
-use Rattle.streams.specs.Promises.{threeNo, passNo, labelText, labelLevel, labelNo}
+use Rattle.streams.specs.Promises.{threeNo, passNo, labelText, labelLevel, labelNo, pairChoice}
 use Rattle.streams.specs.declared.ThreeWritten.{ThreeWritten}
 use Rattle.streams.specs.declared.StreamOutputs.{StreamOutputs}
 use Rattle.streams.specs.declared.LabelWritten.{LabelWritten}
+use Rattle.sheet_lines.specs.Sheet.{sheetBytes}
 use Rattle.acceptance.specs.Accepted.{Accepted}
 
 -- a call that carries 0 gives the accepted answer
@@ -27,7 +37,37 @@ kept : {A : Type 0} (q : ℕ) (a b : A) → q ≡ 0 → accepted q a b ≡ a
 kept zero a b h = refl
 kept (suc q) a b h = absurd (omega (arith, h))
 
+kept-segment : (q : ℕ) (x : NthSegment) → accepted q x (record { refused = q; found = false; segment = noSegment }) .refused ≡ 0
+    → accepted q x (record { refused = q; found = false; segment = noSegment }) ≡ x
+kept-segment zero x h = refl
+kept-segment (suc q) x h = absurd (omega (arith, h))
+
+classBack : ℕ → RunDensity
+classBack zero = Break
+classBack (suc zero) = Run16
+classBack (suc (suc zero)) = Run20
+classBack (suc (suc (suc zero))) = Run24
+classBack (suc (suc (suc (suc n)))) = Run32
+
+class-back : (r : RunDensity) → classBack (classNumber r) ≡ r
+unfolding classBack
+class-back Break = refl
+class-back Run16 = refl
+class-back Run20 = refl
+class-back Run24 = refl
+class-back Run32 = refl
+
+one-class : (r s : RunDensity) → classNumber r ≡ classNumber s → r ≡ s
+one-class r s e = sym (class-back r) ∙ ap classBack e ∙ class-back s
+
+pair-fits : (first second : List ℕ) (width : ℕ) → length (pairChoice first second width) ≤ width
+pair-fits first second width =
+    split (leb (length first) width)
+    (λ e. rw e (leb-true (length first) width e))
+    (λ e. split (leb (length second) width) (λ f. rw (e, f) (leb-true (length second) width f)) (λ f. rw (e, f) (omega arith)))
+
 pub all-accepted : Accepted
+unfolding nthSegment
 all-accepted =
     record {
       oneText = λ q text old new r p h.
@@ -58,4 +98,13 @@ all-accepted =
       share = λ m h. kept (firstNo (inDomain m ∷ hasStream m ∷ [])) (share (classes m)) 0 h;
       alike = λ a b h. kept (firstNo (inDomain a ∷ inDomain b ∷ [])) _ false h;
       nthToken = λ k m h. ap (stepAt k) (kept (firstNo (inDomain m ∷ [])) m [] h);
+      step = λ v said next s h.
+          let e = kept (firstNo (inDomain v ∷ [])) v [] (within v h) in
+          (s .token ∙ ap (stepAt 0) e, s .left ∙ ap afterStep e);
+      segmentAt = λ k m h. kept-segment (firstNo (inDomain m ∷ [])) _ h;
+      firstSegments = λ m h. kept (refusal m empties) _ _ h;
+      sheet = λ input r p. rw (p .answer) (take-append-seam (sheetBytes input) _);
+      class = λ d r s p q. one-class r s (p ∙ sym q);
+      activeRange = active-part;
+      pair = pair-fits;
     }
