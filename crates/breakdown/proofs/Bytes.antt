@@ -1,45 +1,82 @@
 -- Single bytes and short texts, by cases on their numbers.
 -- Assumes nothing.
-use Prim.Native.Nat.{ℕ, zero, suc, _≤_, _<_}
+use Prim.Native.Nat.{ℕ, zero, suc, _+_, _*_, _/_, _%_, _^_, _≤_, _<_, min}
 use mathlib.Core.Path.{_≡_, refl}
-use mathlib.Core.Bool.{true, false}
 use mathlib.Core.Logic.{_≢_}
-use mathlib.Core.List.{[], _∷_, _++_}
+use mathlib.Core.Bool.{Bool, true, false}
+use mathlib.Core.List.{[], _∷_, _++_, append-nil}
 use native.Mathlib.Omega.{arith}
 use lib.Dec.{leb}
-use lib.ListN.{length}
-use borrow.Author.Tests.{ne-eqb}
+use lib.ListN.{length, length-append}
+use borrow.Author.Tests.{le-leb, lt-leb}
 use Rattle.number.proofs.Split.{split}
+use Rattle.number.proofs.Digits.{at-most}
+use Rattle.number.specs.Digits.{digits}
 use Rattle.rules.specs.Bytes.{bytes}
-use Rattle.rules.specs.Reduced.{gap, signOf}
-use Rattle.rules.specs.Texts.{mark, word, part}
+use Rattle.rules.specs.Reduced.{run, gap, signOf}
+use Rattle.rules.specs.Texts.{mark, star, part, word, render}
 use Rattle.breakdown.specs.Put.{byteText}
-use Rattle.breakdown.specs.Sn.{breakItem, lead, breakText}
-use Rattle.breakdown.specs.Standard.{gapText}
+use Rattle.breakdown.specs.Sn.{breakItem}
+use Rattle.breakdown.specs.SnParts.{side}
+use Rattle.breakdown.specs.Standard.{totalText}
 
 pub byte-text : (b : ℕ) → b ≢ 0 → byteText b ≡ b ∷ []
 byte-text zero h = absurd (h refl)
 byte-text (suc b) h = refl
+
+pub byte-short : (b : ℕ) → length (byteText b) ≤ 1
+byte-short zero = omega arith
+byte-short (suc b) = omega arith
 
 pub mark-none : (c : ℕ) → c < 2 → mark c ≡ []
 mark-none zero h = refl
 mark-none (suc zero) h = refl
 mark-none (suc (suc c)) h = absurd (omega arith)
 
-pub mark-more : (c : ℕ) → 4 ≤ c → mark c ≡ bytes "="
-mark-more zero h = absurd (omega arith)
-mark-more (suc zero) h = absurd (omega arith)
-mark-more (suc (suc zero)) h = absurd (omega arith)
-mark-more (suc (suc (suc zero))) h = absurd (omega arith)
-mark-more (suc (suc (suc (suc c)))) h = refl
+-- the bytes of a table of five: nothing or b for a break, and the marks
+abbrev marks : ℕ
+marks = 263544766464
 
-pub lead-more : (i : ℕ) → i ≢ 0 → lead i ≡ bytes " "
-lead-more zero h = absurd (h refl)
-lead-more (suc i) h = refl
+abbrev pub atClass : ℕ → ℕ → ℕ
+atClass table c = table / 2 ^ (8 * min c 4) % 256
 
-pub break-text : (k n : ℕ) → n ≢ 0 → breakText k n ≡ bytes " " ++ word (breakItem k n)
-break-text k zero h = absurd (h refl)
-break-text k (suc n) h = refl
+most : (c : ℕ) → min (suc (suc (suc (suc c)))) 4 ≡ 4
+most c = omega arith
+
+pub mark-at : (c : ℕ) → byteText (atClass marks c) ≡ mark c
+mark-at zero = refl
+mark-at (suc zero) = refl
+mark-at (suc (suc zero)) = refl
+mark-at (suc (suc (suc zero))) = refl
+mark-at (suc (suc (suc (suc c)))) = rw (most c) refl
+
+pub side-at : (b c : ℕ) → b < 256 → byteText (atClass (marks + b) c) ≡ side b c
+side-at b zero h = let e : (marks + b) / 1 % 256 ≡ b = omega arith in rw e refl
+side-at b (suc zero) h = let e : (marks + b) / 256 % 256 ≡ 0 = omega arith in rw e refl
+side-at b (suc (suc zero)) h = let e : (marks + b) / 65536 % 256 ≡ 126 = omega arith in rw e refl
+side-at b (suc (suc (suc zero))) h = let e : (marks + b) / 16777216 % 256 ≡ 92 = omega arith in rw e refl
+side-at b (suc (suc (suc (suc c)))) h = let e : (marks + b) / 4294967296 % 256 ≡ 61 = omega arith in rw (most c, e) refl
+
+pub mark-short : (c : ℕ) → length (mark c) ≤ 1
+mark-short zero = omega arith
+mark-short (suc zero) = omega arith
+mark-short (suc (suc zero)) = omega arith
+mark-short (suc (suc (suc zero))) = omega arith
+mark-short (suc (suc (suc (suc c)))) = omega arith
+
+pub mark-one : (c : ℕ) → 2 ≤ c → length (mark c) ≡ 1
+mark-one zero h = absurd (omega arith)
+mark-one (suc zero) h = absurd (omega arith)
+mark-one (suc (suc zero)) h = refl
+mark-one (suc (suc (suc zero))) h = refl
+mark-one (suc (suc (suc (suc c)))) h = refl
+
+pub star-short : (s : Bool) → length (star s) ≤ 1
+star-short true = omega arith
+star-short false = omega arith
+
+pub run-short : (c n : ℕ) (s : Bool) → n < 2 ^ 64 → length (word (run c n s)) ≤ 23
+run-short c n s h = simp length-append (omega (arith, mark-short c, star-short s, at-most 20 n (omega arith) (omega arith)))
 
 pub sign-item : (k n : ℕ) → k ≢ 0 → breakItem k n ≡ signOf 32 n
 sign-item zero n h = absurd (h refl)
@@ -48,10 +85,20 @@ sign-item (suc k) n h = refl
 pub sign-one : (most n : ℕ) → length (word (signOf most n)) ≡ 1
 sign-one most n = split (leb n 4) (λ e. rw e) (λ e. split (leb n most) (λ f. rw (e, f)) (λ f. rw (e, f)))
 
-pub gap-sign : (n : ℕ) → n ≢ 0 → gapText true n ≡ part (signOf 31 n)
-gap-sign zero h = absurd (h refl)
-gap-sign (suc n) h = refl
+pub sign-short : (n : ℕ) → n ≤ 31 → length (part (signOf 31 n)) ≡ 1
+sign-short n h = rw (le-leb n 31 h) (split (leb n 4) (λ e. rw e) (λ e. rw e))
 
-pub gap-long : (n : ℕ) → n ≢ 0 → n ≢ 1 → gapText false n ≡ bytes " " ++ (word (gap n) ++ bytes " ")
-gap-long zero h g = absurd (h refl)
-gap-long (suc n) h g = rw (ne-eqb (suc n) 1 g)
+pub sign-long : (n : ℕ) → 31 < n → length (part (signOf 31 n)) ≡ 3
+sign-long n h = rw (lt-leb n 4 (omega arith), lt-leb n 31 h)
+
+pub in-parens : (n : ℕ) → n < 4294967296 → length (word (gap n)) ≤ 22
+in-parens n h = simp length-append (omega (arith, at-most 20 n (omega arith) (omega arith)))
+
+pub total-some : (n : ℕ) → n ≢ 0 → totalText n ≡ digits n ++ bytes " Total"
+unfolding render
+total-some zero h = absurd (h refl)
+total-some (suc n) h = rw append-nil
+
+pub total-none : (n : ℕ) → n ≡ 0 → totalText n ≡ bytes "No Streams!"
+unfolding render
+total-none n h = rw h

@@ -1,8 +1,13 @@
 pub mod Bytes
-pub mod Loop
+pub mod Growing
 pub mod Reading
 pub mod Groups
-pub mod GroupTexts
 pub mod Pieces
-pub mod PieceTexts
+pub mod Reached
+pub mod Measures
+pub mod PartByPart
+pub mod Tallied
 pub mod Modes
+pub mod StandardParts
+pub mod Buffered
+pub mod SnParts

@@ -1,9 +1,8 @@
--- The texts of this crate are the paper's, from either source: `from-tokens` and `from-measures` say that the tokens read are the chart's,
--- and each text's law asks only that.
+-- The texts of this crate are the paper's where the tokens are the chart's: in two slices, or read off the measures of its active part.
 -- Assumes nothing.
 use Prim.Native.Nat.{ℕ, zero, suc, _+_, _≤_, _<_}
 use mathlib.Core.Path.{_≡_, refl, sym, ap, _∙_}
-use mathlib.Core.Bool.{Bool, true, false}
+use mathlib.Core.Bool.{Bool, true, false, true≢false}
 use mathlib.Core.Logic.{_≢_}
 use mathlib.Core.List.{List, [], _∷_, map}
 use native.Mathlib.Nat.{add-suc, suc-ne-zero}
@@ -16,6 +15,7 @@ use Rattle.number.proofs.Each.{Each, none, _&_}
 use Rattle.number.proofs.Split.{split}
 use Rattle.rules.specs.Chart.{classes, Token, token, class, len, runsFrom, runs, flat, toLast, active, activePart, tokens, streams}
 use Rattle.rules.specs.Reduced.{joins, joinFrom, join, short, absorb, item, Item, snItems, pieces, reduced}
+use Rattle.rules.specs.declared.Kind.{Kind}
 use Rattle.rules.specs.declared.Kind.the-variants.{Sn as sn, Standard as standard}
 use Rattle.rules.specs.Texts.{part, strung, render, text}
 use Rattle.rules.specs.declared.BreakdownMode.{BreakdownMode}
@@ -24,9 +24,11 @@ use Rattle.rules.specs.declared.StreamBreakdownLevel.{StreamBreakdownLevel}
 use Rattle.rules.specs.declared.StreamBreakdownLevel.the-variants as Level
 use Rattle.rules.proofs.Steps.{joins-long, short-one, short-long, Closed, tokens-closed, active-part}
 use Rattle.measures.specs.Scan.{paired}
-use Rattle.breakdown.specs.Source.{from, Behind, Alternates, Source}
-use Rattle.breakdown.specs.Sn.{limitOf, snAt, textFrom, snText}
-use Rattle.breakdown.specs.Standard.{glue, merged, gapItem, standardOf, standardText, totalText}
+use Rattle.breakdown.specs.Behind.{Behind, Alternates}
+use Rattle.breakdown.specs.Sn.{limitOf, snAt}
+use Rattle.breakdown.specs.Standard.{glue, merged, gapItem, standardOf, totalText}
+use Rattle.breakdown.specs.Parts.{Tokens, spaced, snOf}
+use Rattle.breakdown.specs.Forms.{formOf, isTotal, textOf, ActiveMeasures}
 use Rattle.breakdown.proofs.Reading.{opens-break}
 
 -- ---- the tokens of a chart alternate
@@ -46,34 +48,21 @@ alternates (suc c ∷ cs) =
     let t = token 1 1 false in
     opens-break (tokens (suc c ∷ cs)) (behind-runs 0 (suc c) 1 (toLast cs) t (λ e. omega arith) (omega arith) (tokens-closed t (suc c ∷ cs) (suc-ne-zero 0)))
 
--- ---- Source: tokens in two slices
+-- ---- the tokens of a chart, in two slices
 
-module _ (cs ns chart : List ℕ) (e : paired cs ns ≡ tokens (classes chart)) where
-  pub from-tokens : from [] cs ns 0 ≡ tokens (classes chart)
-  from-tokens = e
+pub tokens-of : (cs ns chart : List ℕ) → paired cs ns ≡ tokens (classes chart) → length cs ≡ length ns → length cs ≤ 1048576 → Tokens cs ns
+tokens-of cs ns chart e l h = record { long = l; few = h; alternates = rw e (alternates (classes chart)) }
 
-  pub source-tokens : length cs ≡ length ns → length cs ≤ 1048576 → Source [] cs ns
-  source-tokens l h = record { long = l; few = (h, omega arith); alternates = rw e (alternates (classes chart)) }
-
--- ---- Source: the measures of the active part
+-- ---- the measures of its active part
 
 module _ (chart : List ℕ) where
-  pub from-measures : from (activePart chart) [] [] 0 ≡ tokens (classes chart)
+  pub part-tokens : runs (classes (activePart chart)) ≡ tokens (classes chart)
   unfolding tokens
-  from-measures = go (activePart chart) ∙ ap runs (active-part chart)
-    where
-      go : (m : List ℕ) → from m [] [] 0 ≡ runs (classes m)
-      go [] = refl
-      go (d ∷ m) = refl
+  part-tokens = ap runs (active-part chart)
 
-  pub source-measures : length chart ≤ 1048576 → Source (activePart chart) [] []
+  pub active-measures : length chart ≤ 1048576 → ActiveMeasures (activePart chart)
   unfolding activePart
-  source-measures h =
-      record {
-        long = refl;
-        few = (omega arith, simp (length-take, length-drop) (omega arith));
-        alternates = rw from-measures (alternates (classes chart));
-      }
+  active-measures h = record { few = simp (length-take, length-drop) (omega arith); alternates = rw part-tokens (alternates (classes chart)) }
 
 -- ---- breaks have a length, so with the limit 0 nothing joins, and below 2 nothing is added
 
@@ -118,7 +107,7 @@ sn-items Mode.Detailed ts h = rw (absorb-none 0 (omega arith) (join 0 ts), join-
 sn-items Mode.Partial ts h = rw (absorb-none 1 (omega arith) (join 1 ts))
 sn-items Mode.Simplified ts h = refl
 
-sn-render : (mode : BreakdownMode) (is : List Item) → textFrom 0 is ≡ render (sn mode) is
+sn-render : (mode : BreakdownMode) (is : List Item) → spaced is ≡ render (sn mode) is
 unfolding render
 sn-render mode [] = refl
 sn-render mode (i ∷ is) = refl
@@ -194,32 +183,38 @@ standard-render l b k (t ∷ ts) = go (join k (merged (t ∷ ts))) (more-glue k 
 
 -- ---- each text is the paper's
 
-module _ (m cs ns chart : List ℕ) (e : from m cs ns 0 ≡ tokens (classes chart)) where
+module _ (ts : List Token) (chart : List ℕ) (e : ts ≡ tokens (classes chart)) where
   -- SN: detailed, partial, simplified
-  pub sn-text : (mode : BreakdownMode) → snText (limitOf mode) m cs ns 0 ≡ text (sn mode) chart
+  pub sn-text : (mode : BreakdownMode) → snOf (limitOf mode) ts ≡ text (sn mode) chart
   unfolding text reduced
   sn-text mode =
-      rw e (ap (textFrom 0) (sn-items mode (tokens (classes chart)) (tokens-long (classes chart))) ∙ sn-render mode (snItems mode (tokens (classes chart))))
+      rw e (ap spaced (sn-items mode (tokens (classes chart)) (tokens-long (classes chart))) ∙ sn-render mode (snItems mode (tokens (classes chart))))
 
-  from-pieces : (l : StreamBreakdownLevel) (b : Bool) (k : ℕ)
-      → standardText b k m cs ns ≡ render (standard l) (map (item (gapItem b)) (join k (pieces (classes chart))))
+  from-pieces : (l : StreamBreakdownLevel) (b : Bool) (k : ℕ) → standardOf b k ts ≡ render (standard l) (map (item (gapItem b)) (join k (pieces (classes chart))))
   from-pieces l b k = rw (e, pieces-merged (classes chart)) (standard-render l b k (tokens (classes chart)))
 
   alone : join 0 (pieces (classes chart)) ≡ pieces (classes chart)
   alone = join-none (pieces (classes chart)) (rw (pieces-merged (classes chart)) (long-merged (tokens (classes chart)) (tokens-long (classes chart))))
 
   -- Standard
-  pub detailed-text : standardText false 0 m cs ns ≡ text (standard Level.Detailed) chart
+  pub detailed-text : standardOf false 0 ts ≡ text (standard Level.Detailed) chart
   unfolding text reduced
   detailed-text = from-pieces Level.Detailed false 0 ∙ rw alone
 
-  pub partial-text : standardText true 0 m cs ns ≡ text (standard Level.Partial) chart
+  pub partial-text : standardOf true 0 ts ≡ text (standard Level.Partial) chart
   unfolding text reduced
   partial-text = from-pieces Level.Partial true 0 ∙ rw alone
 
-  pub simple-text : standardText true 1 m cs ns ≡ text (standard Level.Simple) chart
+  pub simple-text : standardOf true 1 ts ≡ text (standard Level.Simple) chart
   unfolding text reduced
   simple-text = from-pieces Level.Simple true 1
+
+  pub form-text : (k : Kind) → isTotal k ≡ false → textOf (formOf k) ts ≡ text k chart
+  form-text (sn mode) h = sn-text mode
+  form-text (standard Level.Detailed) h = detailed-text
+  form-text (standard Level.Partial) h = partial-text
+  form-text (standard Level.Simple) h = simple-text
+  form-text (standard Level.Total) h = absurd (true≢false h)
 
 -- Total
 pub total-text : (chart : List ℕ) → totalText (streams (classes chart)) ≡ text (standard Level.Total) chart

@@ -1,4 +1,11 @@
 pub mod Put
-pub mod Source
+pub mod Buffer
+pub mod Behind
 pub mod Sn
 pub mod Standard
+pub mod Parts
+pub mod Runs
+pub mod SnParts
+pub mod Forms
+pub mod Lengths
+pub mod Filled

@@ -1,20 +1,22 @@
 // A break or gap, by its length or as a sign.
-use crate::put::put_byte;
-use number::put_u64;
+use crate::buffer::add_byte;
+use crate::buffer::add_number;
+ghost use Prim.Native.Nat.{_+_, _≤_};
 ghost use mathlib.Core.Path.{_≡_};
-ghost use Rattle.number.specs.Place.{Room, Wrote};
+ghost use lib.ListN.{length};
 ghost use Rattle.rules.specs.Reduced.{gap, signOf};
 ghost use Rattle.rules.specs.Texts.{word};
+ghost use Rattle.breakdown.specs.Buffer.{Grown};
 ghost use Rattle.breakdown.specs.Put.{byteText};
 
-// The length in parentheses.
-pub fn put_in_parens(out: &mut [u8], at: usize, n: u32) -> usize
-    requires { ⌜ Room (now out) at (word (gap n)) ⌝ }
-    ensures { λ r. ⌜ Wrote (now (out .entry)) (now (out .exit)) at (word (gap n)) r ⌝ }
+// By its length, in parentheses.
+pub fn add_in_parens(buf: &mut [u8], k: usize, n: u32) -> usize
+    requires { ⌜ k + 22 ≤ length (now buf) ⌝ }
+    ensures { λ r. ⌜ Grown (now (buf .entry)) (now (buf .exit)) k (word (gap n)) r ⌝ }
 {
-    let a = put_byte(out, at, b'(');
-    let b = put_u64(out, a, n as u64);
-    put_byte(out, b, b')')
+    let a = add_byte(buf, k, b'(');
+    let b = add_number(buf, a, n as u64);
+    add_byte(buf, b, b')')
 }
 
 // The sign: up to 4 "-", up to `most` "/", more "|".

@@ -12,17 +12,6 @@ fn put_one(out: &mut [u8], at: usize, b: u8) -> usize
     at + 1
 }
 
-// The byte `b`, or nothing if it is 0.
-pub fn put_byte(out: &mut [u8], at: usize, b: u8) -> usize
-    requires { ⌜ Room (now out) at (byteText b) ⌝ }
-    ensures { λ r. ⌜ Wrote (now (out .entry)) (now (out .exit)) at (byteText b) r ⌝ }
-{
-    if b == 0 {
-        return at;
-    }
-    put_one(out, at, b)
-}
-
 pub fn byte_length(b: u8) -> usize
     ensures { λ r. ⌜ Measured (byteText b) 1 r ⌝ }
 {

@@ -1,171 +1,260 @@
-// SN texts. The join limit says the mode: 0 detailed, 1 partial, 4 simplified.
-use crate::gap::put_in_parens;
+// SN texts, part by part. The join limit says the mode: 0 detailed, 1 partial, 4 simplified.
+use crate::buffer::add_byte;
+use crate::buffer::add_number;
+use crate::buffer::flush;
+use crate::buffer::number_length;
+use crate::buffer::put_buffer;
 use crate::gap::sign_byte;
-use crate::put::byte_length;
-use crate::put::put_byte;
-use crate::run::put_run;
+use crate::run::Done;
+use crate::run::Run;
+use crate::run::Tally;
+use crate::run::add_run;
+use crate::run::byte_for;
 use crate::run::run_length;
-use crate::source::class_at;
-use crate::source::source_end;
-use crate::source::token_at;
-use number::digit_count;
+ghost use Prim.Native.Nat.{_*_, _+_, _^_, _≤_, _<_};
 ghost use mathlib.Core.Path.{_≡_};
+ghost use mathlib.Core.Bool.{cond, false};
+ghost use mathlib.Core.Logic.{_≢_};
+ghost use mathlib.Core.List.{[], _∷_};
 ghost use lib.ListN.{length};
-ghost use Rattle.number.specs.Place.{Room, Wrote};
+ghost use Rattle.rules.specs.Chart.{token};
+ghost use Rattle.rules.specs.Reduced.{dropOnes};
+ghost use Rattle.breakdown.specs.Buffer.{Grown};
+ghost use Rattle.breakdown.specs.Parts.{OpenRun, PartMeasured, PartRoom, PartWritten, TokensBehind, snOn, snPart};
 ghost use Rattle.breakdown.specs.Put.{byteText, Measured};
-ghost use Rattle.breakdown.specs.Source.{Opens, Source};
-ghost use Rattle.breakdown.specs.Sn.{Apart, BeforeBreak, NextGroup, breakText, groupText, lead, snText};
+ghost use Rattle.breakdown.specs.Runs.{runToken};
+ghost use Rattle.breakdown.specs.Sn.{breakTokens, shown};
+ghost use Rattle.breakdown.specs.SnParts.{RunAt, TokenAt, WithBreak, ended, joinClass, longBreak, side};
 
-// A run, joined of several if it is starred, the break that is shown behind it (0: none), and the next token's place.
-struct Group {
-    class: u8,
-    length: u64,
-    starred: bool,
+// The next run, the break before it (0: none), and the place behind it.
+struct NextRun {
     gap: u32,
+    class: u8,
+    length: u32,
     next: usize,
 }
 
-// A run that does not join over the break of `n` behind it: a break of 1 is dropped, one up to the limit added, a longer one shown.
-fn apart(class: u8, length: u64, starred: bool, limit: u32, n: u32, next: usize) -> Group
-    requires { ⌜ BeforeBreak class length n ⌝ }
-    ensures { λ r. ⌜ Apart limit class length starred n next (r .class) (r .length) (r .starred) (r .gap) (r .next) ⌝ }
+// n, or 0 where there is no break: the smaller of two numbers, since a test that picks n itself would be made a branch.
+fn gap_of(broken: bool, n: u32) -> u32
+    ensures { λ r. ⌜ r ≡ cond broken n 0 ⌝ }
 {
-    let mut group = Group {
-        class,
-        length,
-        starred,
-        gap: 0,
-        next,
-    };
-    if n == 1 {
-        return group;
-    }
-    if n <= limit {
-        group.length = length + n as u64;
-        group.starred = true;
-        return group;
-    }
-    group.gap = n;
-    group
+    let most = if broken { 4294967295 } else { 0 };
+    if n < most { n } else { most }
 }
 
-// The run at `i`, with all that joins it, and the break behind it.
-fn next_group(m: &[u32], cs: &[u8], ns: &[u32], limit: u32, i: usize) -> Group
-    requires { ⌜ Opens (now m) (now cs) (now ns) i ⌝ }
-    ensures { λ r. ⌜ NextGroup (now (m .entry)) (now (cs .entry)) (now (ns .entry)) limit i (r .class) (r .length) (r .starred) (r .gap) (r .next) ⌝ }
+// The run at `i`, or behind the break there.
+fn next_run(cs: &[u8], ns: &[u32], i: usize) -> NextRun
+    requires { ⌜ TokenAt (now cs) (now ns) i ⌝ }
+    ensures { λ r. ⌜ RunAt (now (cs .entry)) (now (ns .entry)) i (r .gap) (r .class) (r .length) (r .next) ⌝ }
 {
-    let end = source_end(m, cs);
-    let first = token_at(m, cs, ns, i);
-    let class = first.class;
-    let mut length = first.length as u64;
-    let mut starred = false;
-    let mut j = first.next;
-    while j < end {
-        if class_at(m, cs, j) != 0 {
-            break;
+    let broken = cs[i] == 0;
+    let gap = gap_of(broken, ns[i]);
+    let j = if broken { i + 1 } else { i };
+    NextRun {
+        gap,
+        class: cs[j],
+        length: ns[j],
+        next: j + 1,
+    }
+}
+
+// The class of a run that joins one of `class` over a break of `gap`: 0, which no run has, if none does.
+fn join_class(limit: u32, class: u8, gap: u32) -> u8
+    ensures { λ r. ⌜ r ≡ joinClass limit class gap ⌝ }
+{
+    let near = (0 < gap) & (gap <= limit);
+    if near { class } else { 0 }
+}
+
+// A run, with a break behind it over which no run joins: one of 2 up to the limit is added.
+fn with_break(limit: u32, run: Run, gap: u32) -> Run
+    requires { ⌜ (run .class ≢ 0) × (run .length + gap < 2 ^ 64) ⌝ }
+    ensures { λ r. ⌜ WithBreak limit (runToken run) gap (runToken r) ⌝ }
+{
+    let near = (1 < gap) & (gap <= limit);
+    if near {
+        Run {
+            class: run.class,
+            length: run.length + gap as u64,
+            starred: true,
         }
-        let gap = token_at(m, cs, ns, j);
-        if limit < gap.length {
-            return apart(class, length, starred, limit, gap.length, gap.next);
+    } else {
+        run
+    }
+}
+
+// Such a run and a space, and the sign and a space of a break that is longer than the limit.
+fn add_group(buf: &mut [u8], k: usize, limit: u32, run: Run, gap: u32) -> usize
+    requires { ⌜ (k + 27 ≤ length (now buf)) × (1 ≤ limit) × (run .class ≢ 0) × (run .length + gap < 2 ^ 64) ⌝ }
+    ensures { λ r. ⌜ Grown (now (buf .entry)) (now (buf .exit)) k (ended limit (shown limit (runToken run ∷ breakTokens gap))) r ⌝ }
+{
+    let whole = with_break(limit, run, gap);
+    let a = add_run(buf, k, whole);
+    buf[a] = b' ';
+    let b = a + 1;
+    buf[b] = sign_byte(32, gap);
+    let c = b + 1;
+    buf[c] = b' ';
+    if gap > limit { c + 1 } else { b }
+}
+
+// A part of a text in which runs join.
+fn joined_part(
+    cs: &[u8],
+    ns: &[u32],
+    limit: u32,
+    run: Run,
+    buf: &mut [u8],
+    out: &mut [u8],
+    at: usize,
+) -> Done
+    requires { ⌜ (1 ≤ limit) × TokensBehind (run .class) (now cs) (now ns) × (run .length ≤ 2 ^ 62) × (512 ≤ length (now buf)) × PartRoom (snPart limit (runToken run) (now cs) (now ns)) (now out) at ⌝ }
+    ensures { λ r. ⌜ PartWritten (snPart limit (runToken run) (now (cs .entry)) (now (ns .entry))) (snOn limit (runToken (r .run))) (now (out .entry)) (now (out .exit)) at (r .place) × OpenRun (runToken run) (now (cs .entry)) (runToken (r .run)) ⌝ }
+{
+    let mut last = run;
+    let mut place = at;
+    let mut k: usize = 0;
+    let mut i: usize = 0;
+    while i < cs.len() {
+        let t = next_run(cs, ns, i);
+        if t.class == join_class(limit, last.class, t.gap) {
+            last.length += t.gap as u64 + t.length as u64;
+            last.starred = true;
+        } else {
+            let full = add_group(buf, k, limit, last, t.gap);
+            let f = flush(out, place, buf, full);
+            place = f.place;
+            k = f.left;
+            last = Run {
+                class: t.class,
+                length: t.length as u64,
+                starred: false,
+            };
         }
-        if class_at(m, cs, gap.next) != class {
-            return apart(class, length, starred, limit, gap.length, gap.next);
-        }
-        let run = token_at(m, cs, ns, gap.next);
-        length = length + gap.length as u64 + run.length as u64;
-        starred = true;
-        j = run.next;
+        i = t.next;
     }
-    Group {
-        class,
-        length,
-        starred,
-        gap: 0,
-        next: j,
+    Done {
+        run: last,
+        place: put_buffer(out, place, buf, k),
     }
 }
 
-// The space before an item, but for the one at place 0.
-fn lead_byte(i: usize) -> u8
-    ensures { λ r. ⌜ byteText r ≡ lead i ⌝ }
+// What stands on a side of a token's length: a run's mark, or `paren`, on a side of a break's.
+fn side_byte(class: u8, paren: u8) -> u8
+    ensures { λ r. ⌜ byteText r ≡ side paren class ⌝ }
 {
-    if i == 0 {
-        return 0;
-    }
-    b' '
+    byte_for(0x3d5c7e0000 + paren as u64, class)
 }
 
-// A break that is shown, as a sign or, in detailed, by its length; nothing if it is 0.
-fn put_break(out: &mut [u8], at: usize, limit: u32, n: u32) -> usize
-    requires { ⌜ Room (now out) at (breakText limit n) ⌝ }
-    ensures { λ r. ⌜ Wrote (now (out .entry)) (now (out .exit)) at (breakText limit n) r ⌝ }
+// A run or a break, by its length, and a space; nothing for a break of 1.
+fn add_token(buf: &mut [u8], k: usize, class: u8, n: u32) -> usize
+    requires { ⌜ k + 24 ≤ length (now buf) ⌝ }
+    ensures { λ r. ⌜ Grown (now (buf .entry)) (now (buf .exit)) k (ended 0 (dropOnes (token class n false ∷ []))) r ⌝ }
 {
-    if n == 0 {
-        return at;
-    }
-    let a = put_byte(out, at, b' ');
-    if limit == 0 {
-        return put_in_parens(out, a, n);
-    }
-    put_byte(out, a, sign_byte(32, n))
+    let a = add_byte(buf, k, side_byte(class, b'('));
+    let b = add_number(buf, a, n as u64);
+    let c = add_byte(buf, b, side_byte(class, b')'));
+    buf[c] = b' ';
+    if (class == 0) & (n == 1) { k } else { c + 1 }
 }
 
-fn break_length(limit: u32, n: u32) -> usize
-    ensures { λ r. ⌜ Measured (breakText limit n) 23 r ⌝ }
+// A part of a text in which no runs join.
+fn detailed_part(cs: &[u8], ns: &[u32], run: Run, buf: &mut [u8], out: &mut [u8], at: usize) -> Done
+    requires { ⌜ TokensBehind (run .class) (now cs) (now ns) × (512 ≤ length (now buf)) × PartRoom (snPart 0 (runToken run) (now cs) (now ns)) (now out) at ⌝ }
+    ensures { λ r. ⌜ PartWritten (snPart 0 (runToken run) (now (cs .entry)) (now (ns .entry))) (snOn 0 (runToken (r .run))) (now (out .entry)) (now (out .exit)) at (r .place) × OpenRun (runToken run) (now (cs .entry)) (runToken (r .run)) ⌝ }
 {
-    if n == 0 {
-        return 0;
+    if cs.len() == 0 {
+        return Done { run, place: at };
     }
-    if limit == 0 {
-        return 3 + digit_count(n as u64);
-    }
-    2
-}
-
-fn put_group(out: &mut [u8], at: usize, i: usize, limit: u32, g: Group) -> usize
-    requires { ⌜ Room (now out) at (groupText i limit (g .class) (g .length) (g .starred) (g .gap)) ⌝ }
-    ensures { λ r. ⌜ Wrote (now (out .entry)) (now (out .exit)) at (groupText i limit (g .class) (g .length) (g .starred) (g .gap)) r ⌝ }
-{
-    let a = put_byte(out, at, lead_byte(i));
-    let b = put_run(out, a, g.class, g.length, g.starred);
-    put_break(out, b, limit, g.gap)
-}
-
-fn group_length(i: usize, limit: u32, g: Group) -> usize
-    ensures { λ r. ⌜ Measured (groupText i limit (g .class) (g .length) (g .starred) (g .gap)) 47 r ⌝ }
-{
-    let run = run_length(g.class, g.length, g.starred);
-    byte_length(lead_byte(i)) + run + break_length(limit, g.gap)
-}
-
-// The SN text, at a place of a longer text.
-pub fn sn_text(m: &[u32], cs: &[u8], ns: &[u32], limit: u32, out: &mut [u8], at: usize) -> usize
-    requires { ⌜ Source (now m) (now cs) (now ns) × Room (now out) at (snText limit (now m) (now cs) (now ns) 0) ⌝ }
-    ensures { λ r. ⌜ Wrote (now (out .entry)) (now (out .exit)) at (snText limit (now (m .entry)) (now (cs .entry)) (now (ns .entry)) 0) r ⌝ }
-{
-    let end = source_end(m, cs);
+    let last = cs.len() - 1;
+    let mut k = add_run(buf, 0, run);
+    buf[k] = b' ';
+    k += 1;
     let mut place = at;
     let mut i: usize = 0;
-    while i < end {
-        let g = next_group(m, cs, ns, limit, i);
-        place = put_group(out, place, i, limit, g);
-        i = g.next;
+    while i < last {
+        let full = add_token(buf, k, cs[i], ns[i]);
+        let f = flush(out, place, buf, full);
+        place = f.place;
+        k = f.left;
+        i += 1;
     }
-    place
+    Done {
+        run: Run {
+            class: cs[last],
+            length: ns[last] as u64,
+            starred: false,
+        },
+        place: put_buffer(out, place, buf, k),
+    }
 }
 
-// How long it is.
-pub fn sn_length(m: &[u32], cs: &[u8], ns: &[u32], limit: u32) -> usize
-    requires { ⌜ Source (now m) (now cs) (now ns) ⌝ }
-    ensures { λ r. ⌜ r ≡ length (snText limit (now (m .entry)) (now (cs .entry)) (now (ns .entry)) 0) ⌝ }
+// A part of the SN text: an open run and some tokens behind it, of which the last stays open.
+pub fn sn_part(
+    cs: &[u8],
+    ns: &[u32],
+    limit: u32,
+    run: Run,
+    buf: &mut [u8],
+    out: &mut [u8],
+    at: usize,
+) -> Done
+    requires { ⌜ TokensBehind (run .class) (now cs) (now ns) × (run .length ≤ 2 ^ 62) × (512 ≤ length (now buf)) × PartRoom (snPart limit (runToken run) (now cs) (now ns)) (now out) at ⌝ }
+    ensures { λ r. ⌜ PartWritten (snPart limit (runToken run) (now (cs .entry)) (now (ns .entry))) (snOn limit (runToken (r .run))) (now (out .entry)) (now (out .exit)) at (r .place) × OpenRun (runToken run) (now (cs .entry)) (runToken (r .run)) ⌝ }
 {
-    let end = source_end(m, cs);
+    if limit == 0 {
+        return detailed_part(cs, ns, run, buf, out, at);
+    }
+    joined_part(cs, ns, limit, run, buf, out, at)
+}
+
+// How many bytes a break has that is shown behind a run, with a space: by its length in detailed, else as a sign.
+fn long_length(limit: u32, gap: u32) -> usize
+    ensures { λ r. ⌜ Measured (ended limit (longBreak limit gap)) 23 r ⌝ }
+{
+    let wide = if limit == 0 {
+        3 + number_length(gap as u64)
+    } else {
+        2
+    };
+    if (1 < gap) & (limit < gap) { wide } else { 0 }
+}
+
+// How many bytes a run and the break behind it have, each with a space.
+fn ended_length(limit: u32, run: Run, gap: u32) -> usize
+    requires { ⌜ (run .class ≢ 0) × (run .length + gap < 2 ^ 64) ⌝ }
+    ensures { λ r. ⌜ Measured (ended limit (shown limit (runToken run ∷ breakTokens gap))) 47 r ⌝ }
+{
+    run_length(with_break(limit, run, gap)) + 1 + long_length(limit, gap)
+}
+
+// How long a part of the SN text is: no branch hangs on the tokens but for numbers of 100 and more.
+pub fn sn_part_length(cs: &[u8], ns: &[u32], limit: u32, run: Run) -> Tally
+    requires { ⌜ TokensBehind (run .class) (now cs) (now ns) × (run .length ≤ 2 ^ 62) ⌝ }
+    ensures { λ r. ⌜ PartMeasured (snPart limit (runToken run) (now (cs .entry)) (now (ns .entry))) (snOn limit (runToken (r .run))) (47 * length (now (cs .entry))) (r .length) × OpenRun (runToken run) (now (cs .entry)) (runToken (r .run)) ⌝ }
+{
+    let mut last = run;
     let mut total: usize = 0;
     let mut i: usize = 0;
-    while i < end {
-        let g = next_group(m, cs, ns, limit, i);
-        total += group_length(i, limit, g);
-        i = g.next;
+    while i < cs.len() {
+        let t = next_run(cs, ns, i);
+        let mut more = ended_length(limit, last, t.gap);
+        let mut n = t.length as u64;
+        let joins = t.class == join_class(limit, last.class, t.gap);
+        if joins {
+            more = 0;
+            n = last.length + (t.gap as u64 + n);
+        }
+        total += more;
+        last = Run {
+            class: t.class,
+            length: n,
+            starred: joins,
+        };
+        i = t.next;
     }
-    total
+    Tally {
+        run: last,
+        length: total,
+    }
 }

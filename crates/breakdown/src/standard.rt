@@ -1,63 +1,43 @@
-// Standard texts. Detailed: limit 0, gaps by length; partial: limit 0, signs; simple: limit 1, signs.
-use crate::gap::put_in_parens;
+// Standard texts, part by part. Detailed: limit 0, gaps by length; partial: limit 0, signs; simple: limit 1, signs.
+use crate::buffer::add_byte;
+use crate::buffer::add_number;
+use crate::buffer::flush;
+use crate::buffer::number_length;
+use crate::buffer::put_buffer;
+use crate::gap::add_in_parens;
 use crate::gap::sign_byte;
+use crate::piece::Piece;
+use crate::piece::fill;
+use crate::piece::piece_on;
 use crate::put::byte_length;
-use crate::put::put_byte;
-use crate::put::put_no_streams;
 use crate::run::star_byte;
-use crate::source::source_end;
-use crate::source::token_at;
-use number::digit_count;
-use number::put_u64;
+ghost use Prim.Native.Nat.{_+_, _*_, _^_, _≤_};
 ghost use mathlib.Core.Path.{_≡_};
+ghost use mathlib.Core.Bool.{cond};
 ghost use mathlib.Core.List.{_++_};
+ghost use lib.Dec.{eqb};
 ghost use lib.ListN.{length};
+ghost use Rattle.number.specs.Digits.{digits};
 ghost use Rattle.number.specs.Place.{Room, Wrote};
-ghost use Rattle.rules.specs.Reduced.{signOf};
+ghost use Rattle.rules.specs.Bytes.{bytes};
+ghost use Rattle.rules.specs.Reduced.{gap, signOf};
 ghost use Rattle.rules.specs.Texts.{part, word};
+ghost use Rattle.breakdown.specs.Buffer.{Grown};
+ghost use Rattle.breakdown.specs.Filled.{doneText, doneTexts};
+ghost use Rattle.breakdown.specs.Parts.{PartMeasured, PartRoom, PartWritten, TokensBehind, standardFrom, standardPart};
 ghost use Rattle.breakdown.specs.Put.{byteText, Measured};
-ghost use Rattle.breakdown.specs.Source.{Opens, Source};
-ghost use Rattle.breakdown.specs.Standard.{NextPiece, gapText, pieceText, standardText};
+ghost use Rattle.breakdown.specs.Standard.{gapItem};
 
-// A piece, joined of several if it is starred, the gap behind it (0: none), and the next token's place.
-struct Piece {
-    length: u64,
-    starred: bool,
-    gap: u32,
-    next: usize,
+// The piece that is open behind a part, and the next place.
+pub struct StandardDone {
+    pub piece: Piece,
+    pub place: usize,
 }
 
-// The piece that begins at `i`, with all that joins it, and the gap behind it.
-fn next_piece(m: &[u32], cs: &[u8], ns: &[u32], limit: u32, i: usize) -> Piece
-    requires { ⌜ Opens (now m) (now cs) (now ns) i ⌝ }
-    ensures { λ r. ⌜ NextPiece (now (m .entry)) (now (cs .entry)) (now (ns .entry)) limit i (r .length) (r .starred) (r .gap) (r .next) ⌝ }
-{
-    let end = source_end(m, cs);
-    let mut length: u64 = 0;
-    let mut starred = false;
-    let mut j = i;
-    while j < end {
-        let t = token_at(m, cs, ns, j);
-        if t.class == 0 {
-            if limit < t.length {
-                return Piece {
-                    length,
-                    starred,
-                    gap: t.length,
-                    next: t.next,
-                };
-            }
-            starred = true;
-        }
-        length += t.length as u64;
-        j = t.next;
-    }
-    Piece {
-        length,
-        starred,
-        gap: 0,
-        next: j,
-    }
+// The piece that is open behind a part, and how many bytes are done.
+pub struct StandardMeasured {
+    pub piece: Piece,
+    pub length: usize,
 }
 
 // What stands on both sides of a sign in a standard text.
@@ -71,108 +51,164 @@ fn pad_byte(n: u32) -> u8
 }
 
 // A sign, between spaces if it is "|".
-fn put_sign(out: &mut [u8], at: usize, n: u32) -> usize
-    requires { ⌜ Room (now out) at (part (signOf 31 n)) ⌝ }
-    ensures { λ r. ⌜ Wrote (now (out .entry)) (now (out .exit)) at (part (signOf 31 n)) r ⌝ }
+fn add_sign(buf: &mut [u8], k: usize, n: u32) -> usize
+    requires { ⌜ k + 3 ≤ length (now buf) ⌝ }
+    ensures { λ r. ⌜ Grown (now (buf .entry)) (now (buf .exit)) k (part (signOf 31 n)) r ⌝ }
 {
     let pad = pad_byte(n);
-    let a = put_byte(out, at, pad);
-    let b = put_byte(out, a, sign_byte(31, n));
-    put_byte(out, b, pad)
+    let a = add_byte(buf, k, pad);
+    let b = add_byte(buf, a, sign_byte(31, n));
+    add_byte(buf, b, pad)
 }
 
-// A gap that is shown, as a sign or by its length; nothing if it is 0.
-fn put_gap(out: &mut [u8], at: usize, signs: bool, n: u32) -> usize
-    requires { ⌜ Room (now out) at (gapText signs n) ⌝ }
-    ensures { λ r. ⌜ Wrote (now (out .entry)) (now (out .exit)) at (gapText signs n) r ⌝ }
+// The first byte of a gap by its length.
+fn first_byte(n: u32) -> u8
+    ensures { λ r. ⌜ byteText r ≡ cond (eqb n 1) (bytes "-") (bytes " ") ⌝ }
 {
-    if n == 0 {
-        return at;
-    }
-    if signs {
-        return put_sign(out, at, n);
-    }
     if n == 1 {
-        return put_byte(out, at, b'-');
+        return b'-';
     }
-    let a = put_byte(out, at, b' ');
-    let b = put_in_parens(out, a, n);
-    put_byte(out, b, b' ')
+    b' '
 }
 
-fn gap_length(signs: bool, n: u32) -> usize
-    ensures { λ r. ⌜ Measured (gapText signs n) 24 r ⌝ }
+// A gap by its length: "-" for 1, else in parentheses, which are stored anyway: the place says whether they count.
+fn add_length(buf: &mut [u8], k: usize, n: u32) -> usize
+    requires { ⌜ k + 24 ≤ length (now buf) ⌝ }
+    ensures { λ r. ⌜ Grown (now (buf .entry)) (now (buf .exit)) k (part (gap n)) r ⌝ }
 {
-    if n == 0 {
-        return 0;
-    }
+    let a = add_byte(buf, k, first_byte(n));
+    let b = add_in_parens(buf, a, n);
+    let c = add_byte(buf, b, b' ');
+    if n == 1 { a } else { c }
+}
+
+fn add_gap(buf: &mut [u8], k: usize, signs: bool, n: u32) -> usize
+    requires { ⌜ k + 24 ≤ length (now buf) ⌝ }
+    ensures { λ r. ⌜ Grown (now (buf .entry)) (now (buf .exit)) k (part (gapItem signs n)) r ⌝ }
+{
     if signs {
-        let pad = byte_length(pad_byte(n));
-        return pad + 1 + pad;
+        return add_sign(buf, k, n);
     }
-    if n == 1 {
-        return 1;
+    add_length(buf, k, n)
+}
+
+// The length and star of a piece; the star as a byte, 0 if there is none.
+fn add_open(buf: &mut [u8], k: usize, n: u64, star: u8) -> usize
+    requires { ⌜ k + 21 ≤ length (now buf) ⌝ }
+    ensures { λ r. ⌜ Grown (now (buf .entry)) (now (buf .exit)) k (digits n ++ byteText star) r × (r ≤ k + 21) ⌝ }
+{
+    let a = add_number(buf, k, n);
+    add_byte(buf, a, star)
+}
+
+fn add_piece(buf: &mut [u8], k: usize, n: u64, starred: bool, gap: u32, signs: bool) -> usize
+    requires { ⌜ k + 45 ≤ length (now buf) ⌝ }
+    ensures { λ r. ⌜ Grown (now (buf .entry)) (now (buf .exit)) k (doneText signs n starred gap) r ⌝ }
+{
+    let a = add_open(buf, k, n, star_byte(starred));
+    add_gap(buf, a, signs, gap)
+}
+
+// The pieces that are done, each with its gap.
+fn put_pieces(
+    lengths: &[u64; 16],
+    stars: &[bool; 16],
+    gaps: &[u32; 16],
+    count: usize,
+    signs: bool,
+    buf: &mut [u8],
+    out: &mut [u8],
+    at: usize,
+) -> usize
+    requires { ⌜ (count ≤ 16) × (512 ≤ length (now buf)) × Room (now out) at (doneTexts signs count (now lengths) (now stars) (now gaps)) ⌝ }
+    ensures { λ r. ⌜ Wrote (now (out .entry)) (now (out .exit)) at (doneTexts signs count (now (lengths .entry)) (now (stars .entry)) (now (gaps .entry))) r × (length (now (buf .exit)) ≡ length (now (buf .entry))) ⌝ }
+{
+    let mut place = at;
+    let mut k: usize = 0;
+    let mut i: usize = 0;
+    while i < count {
+        let full = add_piece(buf, k, lengths[i], stars[i], gaps[i], signs);
+        let f = flush(out, place, buf, full);
+        place = f.place;
+        k = f.left;
+        i += 1;
     }
-    4 + digit_count(n as u64)
+    put_buffer(out, place, buf, k)
 }
 
-fn put_piece(out: &mut [u8], at: usize, signs: bool, p: Piece) -> usize
-    requires { ⌜ Room (now out) at (pieceText signs (p .length) (p .starred) (p .gap)) ⌝ }
-    ensures { λ r. ⌜ Wrote (now (out .entry)) (now (out .exit)) at (pieceText signs (p .length) (p .starred) (p .gap)) r ⌝ }
-{
-    let a = put_u64(out, at, p.length);
-    let b = put_byte(out, a, star_byte(p.starred));
-    put_gap(out, b, signs, p.gap)
-}
-
-fn piece_length(signs: bool, p: Piece) -> usize
-    ensures { λ r. ⌜ Measured (pieceText signs (p .length) (p .starred) (p .gap)) 47 r ⌝ }
-{
-    digit_count(p.length) + byte_length(star_byte(p.starred)) + gap_length(signs, p.gap)
-}
-
-// The standard text, at a place of a longer text: gaps as signs, or by length.
-pub fn standard_text(
-    m: &[u32],
+// A part: the tokens behind an open piece. The one that is open at its end is answered, and not written.
+pub fn standard_part(
     cs: &[u8],
     ns: &[u32],
     limit: u32,
     signs: bool,
+    piece: Piece,
+    buf: &mut [u8],
     out: &mut [u8],
     at: usize,
-) -> usize
-    requires { ⌜ Source (now m) (now cs) (now ns) × Room (now out) at (standardText signs limit (now m) (now cs) (now ns)) ⌝ }
-    ensures { λ r. ⌜ Wrote (now (out .entry)) (now (out .exit)) at (standardText signs limit (now (m .entry)) (now (cs .entry)) (now (ns .entry))) r ⌝ }
+) -> StandardDone
+    requires { ⌜ TokensBehind 1 (now cs) (now ns) × (piece .length ≤ 2 ^ 62) × (512 ≤ length (now buf)) × PartRoom (standardPart signs limit (piece .length) (piece .starred) (now cs) (now ns)) (now out) at ⌝ }
+    ensures { λ r. ⌜ PartWritten (standardPart signs limit (piece .length) (piece .starred) (now (cs .entry)) (now (ns .entry))) (standardFrom signs limit (r .piece .length) (r .piece .starred)) (now (out .entry)) (now (out .exit)) at (r .place) × (r .piece .length ≤ piece .length + 4294967296 * length (now (cs .entry))) ⌝ }
 {
-    let end = source_end(m, cs);
-    if end == 0 {
-        return put_no_streams(out, at);
-    }
+    let mut lengths = [0u64; 16];
+    let mut stars = [false; 16];
+    let mut gaps = [0u32; 16];
+    let mut open = piece;
     let mut place = at;
     let mut i: usize = 0;
-    while i < end {
-        let p = next_piece(m, cs, ns, limit, i);
-        place = put_piece(out, place, signs, p);
-        i = p.next;
+    while i < cs.len() {
+        let f = fill(cs, ns, limit, i, open, &mut lengths, &mut stars, &mut gaps);
+        place = put_pieces(&lengths, &stars, &gaps, f.count, signs, buf, out, place);
+        open = f.piece;
+        i = f.next;
     }
-    place
+    StandardDone { piece: open, place }
 }
 
-// How long it is.
-pub fn standard_length(m: &[u32], cs: &[u8], ns: &[u32], limit: u32, signs: bool) -> usize
-    requires { ⌜ Source (now m) (now cs) (now ns) ⌝ }
-    ensures { λ r. ⌜ r ≡ length (standardText signs limit (now (m .entry)) (now (cs .entry)) (now (ns .entry))) ⌝ }
+// How long a gap that is shown is.
+fn shown_length(signs: bool, n: u32) -> usize
+    ensures { λ r. ⌜ Measured (part (gapItem signs n)) 24 r ⌝ }
 {
-    let end = source_end(m, cs);
-    if end == 0 {
-        return 11;
+    if signs {
+        return if n <= 31 { 1 } else { 3 };
     }
+    let long = 4 + number_length(n as u64);
+    if n == 1 { 1 } else { long }
+}
+
+// How long a piece and the gap behind it are.
+fn done_length(n: u64, starred: bool, signs: bool, gap: u32) -> usize
+    ensures { λ r. ⌜ Measured (doneText signs n starred gap) 47 r ⌝ }
+{
+    number_length(n) + byte_length(star_byte(starred)) + shown_length(signs, gap)
+}
+
+// How many bytes `standard_part` writes.
+pub fn standard_part_length(
+    cs: &[u8],
+    ns: &[u32],
+    limit: u32,
+    signs: bool,
+    piece: Piece,
+) -> StandardMeasured
+    requires { ⌜ TokensBehind 1 (now cs) (now ns) × (piece .length ≤ 2 ^ 62) ⌝ }
+    ensures { λ r. ⌜ PartMeasured (standardPart signs limit (piece .length) (piece .starred) (now (cs .entry)) (now (ns .entry))) (standardFrom signs limit (r .piece .length) (r .piece .starred)) (47 * length (now (cs .entry))) (r .length) × (r .piece .length ≤ piece .length + 4294967296 * length (now (cs .entry))) ⌝ }
+{
+    let mut open = piece;
     let mut total: usize = 0;
     let mut i: usize = 0;
-    while i < end {
-        let p = next_piece(m, cs, ns, limit, i);
-        total += piece_length(signs, p);
-        i = p.next;
+    while i < cs.len() {
+        let n = ns[i];
+        let gap = cs[i] == 0;
+        let wide = if gap { n } else { 0 };
+        let shown = limit < wide;
+        let more = done_length(open.length, open.starred, signs, n);
+        total += if shown { more } else { 0 };
+        open = piece_on(open, gap, shown, n);
+        i += 1;
     }
-    total
+    StandardMeasured {
+        piece: open,
+        length: total,
+    }
 }

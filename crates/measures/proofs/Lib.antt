@@ -4,9 +4,9 @@ pub mod Part
 pub mod Counted
 pub mod Tallied
 pub mod Table
+pub mod Front
 pub mod Going
 pub mod Adding
-pub mod Numbered
 pub mod Written
 pub mod Shared
 pub mod Same

@@ -1,15 +1,15 @@
 -- Tokens written in two slices, read back from there.
 -- Assumes nothing.
 use Prim.Native.Nat.{ℕ, _≤_}
-use mathlib.Core.Path.{_≡_, sym, _∙_}
-use mathlib.Core.List.{List, map}
+use mathlib.Core.Path.{_≡_, refl, sym, _∙_}
+use mathlib.Core.List.{List, map, append-nil}
 use native.Mathlib.Omega.{arith}
 use lib.ListN.{length, take, drop, length-append, length-map}
-use lib.Seq.{take-at, length-take-le}
+use lib.Seq.{take-at, length-take-le, drop-length}
 use Rattle.number.specs.Questions.{filled}
 use Rattle.rules.specs.Chart.{classes, Token, class, len, runs}
 use Rattle.rules.proofs.Cost.{total-runs}
-use Rattle.measures.specs.Scan.{InSlices, paired, Paired}
+use Rattle.measures.specs.Scan.{InSlices, FirstRuns, paired, Paired}
 use Rattle.measures.proofs.Counted.{paired-runs}
 
 module _ {ts : List Token} {k : ℕ} {cs₀ cs₁ ns₀ ns₁ : List ℕ} (w : InSlices ts k cs₀ cs₁ ns₀ ns₁) where
@@ -34,3 +34,14 @@ module _ {ts : List Token} {k : ℕ} {cs₀ cs₁ ns₀ ns₁ : List ℕ} (w : I
         long = length-take-le k cs₁ withinC ∙ sym (length-take-le k ns₁ withinN);
         few = rw (back m e, e, total-runs, length-map) h;
       }
+
+-- all runs are the first runs
+pub all-first : (m : List ℕ) (most : ℕ) {k : ℕ} {cs₀ cs₁ ns₀ ns₁ : List ℕ} → InSlices (runs (classes m)) k cs₀ cs₁ ns₀ ns₁ → FirstRuns m most cs₀ cs₁ ns₀ ns₁ (record { tokens = k; next = length m })
+all-first m most w =
+    record {
+      rest = rw (drop-length, back w m refl, append-nil);
+      within = omega arith;
+      fits = withinC w;
+      many = λ h. absurd (omega arith);
+      all = λ h. w;
+    }

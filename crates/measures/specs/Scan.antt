@@ -1,15 +1,18 @@
 -- What the scan into tokens and the functions below it ask and promise.
 -- Assumes nothing.
-use Prim.Native.Nat.{ℕ, zero, suc, _+_, _≤_, _<_, _^_}
+use Prim.Native.Nat.{ℕ, zero, suc, _+_, _-_, _≤_, _<_, _^_}
 use mathlib.Core.Path.{_≡_}
 use mathlib.Core.Bool.{false}
-use mathlib.Core.List.{List, [], _∷_, map}
-use lib.ListN.{length, getD}
+use mathlib.Core.Logic.{_≢_, _⊎_}
+use mathlib.Core.List.{List, [], _∷_, _++_, map}
+use lib.ListN.{length, take, drop, getD}
 use Rattle.number.specs.Questions.{filled}
-use Rattle.rules.specs.Chart.{classOf, classes, Token, token, class, len, runs, tokens, counts}
+use Rattle.rules.specs.Chart.{classOf, classes, Token, token, class, len, runsFrom, runs, tokens, counts}
 use Rattle.rules.proofs.Cost.{total}
 use Rattle.measures.specs.declared.scan.Bounds.{Bounds}
+use Rattle.measures.specs.declared.scan.Pending.{Pending}
 use Rattle.measures.specs.declared.scan.ScanAnswer.{ScanAnswer}
+use Rattle.measures.specs.declared.scan.Taken.{Taken}
 
 -- the n numbers from i on
 abbrev pub upFrom : ℕ → ℕ → List ℕ
@@ -31,11 +34,49 @@ pub record OfClass (m : List ℕ) (from c r : ℕ) : Type 0 where
   pub within : r ≤ length m
   pub each : (i : ℕ) → from ≤ i → i < r → classOf (getD m i 0) ≡ c
 
--- measures of the domain, a place in both slices for each of their runs, and the table of classes
-pub record Ready (m cs ns table : List ℕ) : Type 0 where
+-- a place in s for each run of m, or for `most` of them, a block of 16 more and the pending one
+abbrev pub Room : List ℕ → ℕ → List ℕ → Type 0
+Room m most s = (length (runs (classes m)) ≤ length s) ⊎ (most + 17 ≤ length s)
+
+-- `done` is written, and behind it a run of n measures of class c before place i, which is pending
+pub record Going (m cs₀ ns₀ cs ns : List ℕ) (most c n k i : ℕ) : Type 0 where
+  pub done : List Token
+  pub whole : done ++ runsFrom c n (drop i (classes m)) ≡ runs (classes m)
+  pub inClasses : cs ≡ filled cs₀ (map class done ++ (c ∷ []))
+  pub inLengths : ns ≡ filled ns₀ (map len done ++ (n ∷ []))
+  pub written : k ≡ length done
+  pub small : c ≤ 4
+  pub few : k < i
+  pub sum : total done + n ≡ i
+  pub within : i ≤ length m
+  pub low : k < most + 17
+  pub roomC : Room m most cs₀
+  pub roomN : Room m most ns₀
+
+-- .. and so it is q measures on, where there is room for as many tokens
+abbrev pub Onward : List ℕ → ℕ → ℕ → List ℕ → List ℕ → List ℕ → List ℕ → ℕ → ℕ → ℕ → ℕ → ℕ → ℕ → Type 0
+Onward m i q cs₀ cs ns₀ ns c₀ n₀ k₀ c n k =
+    (most : ℕ) (old new : List ℕ) → k₀ + q < most + 17 → Going m old new cs₀ ns₀ most c₀ n₀ k₀ i → Going m old new cs ns most c n k (i + q)
+
+-- `count` measures from `from` on, before a pending run, and room for as many tokens
+pub record Steps (m : List ℕ) (from count : ℕ) (cs ns table : List ℕ) (p : Pending) : Type 0 where
   pub few : length m ≤ 1048576
-  pub roomC : length (runs (classes m)) ≤ length cs
-  pub roomN : length (runs (classes m)) ≤ length ns
+  pub right : table ≡ classTable
+  pub within : from + count ≤ length m
+  pub most : ℕ
+  pub low : p .place + count < most + 17
+  pub old : List ℕ
+  pub new : List ℕ
+  pub going : Going m old new cs ns most (p .class) (p .length) (p .place) from
+
+abbrev pub Stepped : List ℕ → ℕ → ℕ → List ℕ → List ℕ → List ℕ → List ℕ → Pending → Pending → Type 0
+Stepped m from count cs₀ cs ns₀ ns p r = Onward m from count cs₀ cs ns₀ ns (p .class) (p .length) (p .place) (r .class) (r .length) (r .place)
+
+-- measures of the domain, room in both slices, and the table of classes
+pub record Ready (m cs ns table : List ℕ) (most : ℕ) : Type 0 where
+  pub few : length m ≤ 1048576
+  pub roomC : Room m most cs
+  pub roomN : Room m most ns
   pub right : table ≡ classTable
 
 -- r tokens in two slices, class numbers and lengths; later places as they were
@@ -49,6 +90,14 @@ abbrev pub paired : List ℕ → List ℕ → List Token
 paired [] ns = []
 paired (c ∷ cs) [] = []
 paired (c ∷ cs) (n ∷ ns) = token c n false ∷ paired cs ns
+
+-- the first runs of m in the two slices, at least `most` or all of them, and those of the measures from `next` on still to come
+pub record FirstRuns (m : List ℕ) (most : ℕ) (cs₀ cs ns₀ ns : List ℕ) (r : Taken) : Type 0 where
+  pub rest : runs (classes m) ≡ paired (take (r .tokens) cs) (take (r .tokens) ns) ++ runs (classes (drop (r .next) m))
+  pub within : r .next ≤ length m
+  pub fits : r .tokens ≤ length cs
+  pub many : r .next < length m → most ≤ r .tokens
+  pub all : length m ≤ most → InSlices (runs (classes m)) (r .tokens) cs₀ cs ns₀ ns
 
 -- tokens in two slices, of few enough measures
 pub record Paired (cs ns : List ℕ) : Type 0 where
@@ -65,3 +114,22 @@ pub record TokenRoom (m cs ns : List ℕ) : Type 0 where
 pub record Scanned (m : List ℕ) (r : ScanAnswer) (cs₀ cs₁ ns₀ ns₁ : List ℕ) : Type 0 where
   pub counted : r .counts ≡ counts (classes m)
   pub written : InSlices (tokens (classes m)) (r .tokens) cs₀ cs₁ ns₀ ns₁
+
+-- measures that end in a stream measure, and slices for a good number of tokens
+pub record Ahead (m cs ns : List ℕ) : Type 0 where
+  pub few : length m ≤ 1048576
+  pub some : 0 < length m
+  pub last : classOf (getD m (length m - 1) 0) ≢ 0
+  pub long : length ns ≡ length cs
+  pub room : 32 ≤ length cs
+
+-- the first tokens of m in the two slices, the last of them a run, and those of the measures from `next` on still to come
+pub record FirstTokens (m cs₀ cs ns₀ ns : List ℕ) (r : Taken) : Type 0 where
+  pub rest : runs (classes m) ≡ paired (take (r .tokens) cs) (take (r .tokens) ns) ++ runs (classes (drop (r .next) m))
+  pub some : 1 ≤ r .tokens
+  pub fits : r .tokens ≤ length cs
+  pub run : getD cs (r .tokens - 1) 0 ≢ 0
+  pub on : 1 ≤ r .next
+  pub within : r .next ≤ length m
+  pub longC : length cs ≡ length cs₀
+  pub longN : length ns ≡ length ns₀

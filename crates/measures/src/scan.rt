@@ -1,6 +1,5 @@
 // One scan over a chart's measures: its tokens and its counts.
 use crate::active::active_behind;
-use crate::active::active_range;
 use crate::active::lead_in;
 use crate::active::skip;
 use crate::counts::Sums;
@@ -9,18 +8,24 @@ use crate::counts::wide;
 use rules::StreamCounts;
 ghost use mathlib.Core.Path.{_≡_};
 ghost use mathlib.Core.Bool.{cond};
-ghost use lib.Dec.{eqb, leb};
+ghost use lib.Dec.{eqb};
 ghost use lib.ListN.{length};
-ghost use Prim.Native.Nat.{_+_, _≤_, _<_, _^_, min};
-ghost use Rattle.rules.specs.Chart.{classOf, classes, runs, tokens};
+ghost use Prim.Native.Nat.{_+_, _≤_, _<_, _^_};
+ghost use Rattle.rules.specs.Chart.{classOf, runs, tokens};
 ghost use Rattle.measures.specs.Sums.{sumsOf};
-ghost use Rattle.measures.specs.Scan.{classTable, Bounded, OfClass, Ready, InSlices, paired, Paired, TokenRoom, Scanned};
+ghost use Rattle.measures.specs.Scan.{classTable, Bounded, OfClass, Steps, Stepped, Ready, FirstRuns, paired, Paired, TokenRoom, Scanned, Ahead, FirstTokens};
 
 // What the scan answers: the counts and the number of tokens.
 #[repr(C)]
 pub struct ScanAnswer {
     pub counts: StreamCounts,
     pub tokens: usize,
+}
+
+// How many of a chart's first tokens were taken, and the measure where the tokens after them begin.
+pub struct Taken {
+    pub tokens: usize,
+    pub next: usize,
 }
 
 // The class of each density up to 32, which stands for all above it.
@@ -103,49 +108,86 @@ fn run_on(m: &[u32], i: usize, class: u8) -> usize
     skip(m, i, b.lo, b.more)
 }
 
-// One past the 16 measures from `i` on, or past the last of n.
-fn block_end(n: usize, i: usize) -> usize
-    requires { ⌜ i ≤ n ⌝ }
-    ensures { λ r. ⌜ (min (i + 1) n ≤ r) × (r ≤ n) ⌝ }
-{
-    if n - i > 16 { i + 16 } else { n }
+// The run that a scan is in: its class, its measures so far, and its place in the slices.
+struct Pending {
+    class: u8,
+    length: u32,
+    place: usize,
 }
 
-// The longest runs of one class in `m`, into two lent slices: over a long run eight measures at a time, then a block where the pending
-// run is written at each measure, so that no branch on the chart's data is needed.
-fn runs_into(m: &[u32], cs: &mut [u8], ns: &mut [u32], table: &[u8; 33]) -> usize
-    requires { ⌜ Ready (now m) (now cs) (now ns) (now table) ⌝ }
-    ensures { λ r. ⌜ InSlices (runs (classes (now (m .entry)))) r (now (cs .entry)) (now (cs .exit)) (now (ns .entry)) (now (ns .exit)) ⌝ }
+// On over `count` measures from `from` on: the pending run is written at each, so that no branch on the chart's data is needed.
+fn steps_into(
+    m: &[u32],
+    from: usize,
+    count: usize,
+    cs: &mut [u8],
+    ns: &mut [u32],
+    table: &[u8; 33],
+    p: Pending,
+) -> Pending
+    requires { ⌜ Steps (now m) from count (now cs) (now ns) (now table) p ⌝ }
+    ensures { λ r. ⌜ Stepped (now (m .entry)) from count (now (cs .entry)) (now (cs .exit)) (now (ns .entry)) (now (ns .exit)) p r ⌝ }
+{
+    let mut c = p.class;
+    let mut n = p.length;
+    let mut k = p.place;
+    let mut t: usize = 0;
+    while t < count {
+        let d = class_at(table, m[from + t]);
+        n += 1;
+        if d != c {
+            k += 1;
+            n = 1;
+        }
+        c = d;
+        cs[k] = d;
+        ns[k] = n;
+        t += 1;
+    }
+    Pending {
+        class: c,
+        length: n,
+        place: k,
+    }
+}
+
+// The longest runs of one class in `m`, into two lent slices, until there are `most`: over a long run eight measures at a time, then a
+// block of 16 step by step. A block's length stands in the call, so that the compiler unrolls its loop.
+fn runs_into(m: &[u32], cs: &mut [u8], ns: &mut [u32], table: &[u8; 33], most: usize) -> Taken
+    requires { ⌜ Ready (now m) (now cs) (now ns) (now table) most ⌝ }
+    ensures { λ r. ⌜ FirstRuns (now (m .entry)) most (now (cs .entry)) (now (cs .exit)) (now (ns .entry)) (now (ns .exit)) r ⌝ }
 {
     if m.len() == 0 {
-        return 0;
+        return Taken { tokens: 0, next: 0 };
     }
-    let mut c = class_at(table, m[0]);
-    let mut n: u32 = 1;
-    let mut k: usize = 0;
-    let mut i: usize = 1;
+    let c = class_at(table, m[0]);
     cs[0] = c;
     ns[0] = 1;
+    let mut p = Pending {
+        class: c,
+        length: 1,
+        place: 0,
+    };
+    let mut i: usize = 1;
     while i < m.len() {
-        let j = run_on(m, i, c);
-        n += (j - i) as u32;
-        ns[k] = n;
-        i = j;
-        let stop = block_end(m.len(), i);
-        while i < stop {
-            let d = class_at(table, m[i]);
-            n += 1;
-            if d != c {
-                k += 1;
-                n = 1;
-            }
-            c = d;
-            cs[k] = d;
-            ns[k] = n;
-            i += 1;
+        let k = p.place;
+        if k >= most {
+            i -= p.length as usize;
+            return Taken { tokens: k, next: i };
+        }
+        let j = run_on(m, i, p.class);
+        p.length += (j - i) as u32;
+        ns[k] = p.length;
+        if m.len() - j > 16 {
+            p = steps_into(m, j, 16, cs, ns, table, p);
+            i = j + 16;
+        } else {
+            p = steps_into(m, j, m.len() - j, cs, ns, table, p);
+            i = m.len();
         }
     }
-    k + 1
+    let tokens = p.place + 1;
+    Taken { tokens, next: i }
 }
 
 // v, with n added where x is k.
@@ -197,41 +239,28 @@ pub fn scan(m: &[u32], cs: &mut [u8], ns: &mut [u32]) -> ScanAnswer
     let lead = lead_in(m);
     let part = active_behind(m, lead);
     let table = CLASS;
-    let tokens = runs_into(part, cs, ns, &table);
+    let taken = runs_into(part, cs, ns, &table, part.len());
+    let tokens = taken.tokens;
     let sums = add_up(&cs[..tokens], &ns[..tokens]);
     let counts = counted(m, lead, part, sums);
     ScanAnswer { counts, tokens }
 }
 
-// How many longest runs of one class there are.
-fn runs_number(m: &[u32], table: &[u8; 33]) -> usize
-    requires { ⌜ now table ≡ classTable ⌝ }
-    ensures { λ r. ⌜ r ≡ length (runs (classes (now (m .entry)))) ⌝ }
+// The first tokens of `m`, as many as surely fit: `runs_into` may go 16 beyond the place where it is to stop, and one is pending. A break
+// is given back where it is the last, so that the last is a run.
+pub fn tokens_into(m: &[u32], cs: &mut [u8], ns: &mut [u32]) -> Taken
+    requires { ⌜ Ahead (now m) (now cs) (now ns) ⌝ }
+    ensures { λ r. ⌜ FirstTokens (now (m .entry)) (now (cs .entry)) (now (cs .exit)) (now (ns .entry)) (now (ns .exit)) r ⌝ }
 {
-    if m.len() == 0 {
-        return 0;
-    }
-    let mut c = class_at(table, m[0]);
-    let mut k: usize = 1;
-    let mut i: usize = 1;
-    while i < m.len() {
-        let d = class_at(table, m[i]);
-        if d != c {
-            k += 1;
-        }
-        c = d;
-        i += 1;
-    }
-    k
-}
-
-// Question 2 of one token slice: a place for each token? They are counted only where the slice has fewer places than the chart has measures.
-pub fn tokens_fit(m: &[u32], places: usize) -> bool
-    ensures { λ r. ⌜ r ≡ leb (length (tokens (classes (now (m .entry))))) places ⌝ }
-{
-    if m.len() <= places {
-        return true;
-    }
     let table = CLASS;
-    runs_number(active_range(m), &table) <= places
+    let most = cs.len() - 17;
+    let all = runs_into(m, cs, ns, &table, most);
+    let last = all.tokens - 1;
+    if cs[last] != 0 {
+        return all;
+    }
+    Taken {
+        tokens: last,
+        next: all.next - ns[last] as usize,
+    }
 }

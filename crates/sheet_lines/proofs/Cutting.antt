@@ -8,7 +8,7 @@ use native.Mathlib.Omega.{arith}
 use lib.ListN.{length, take, drop, getD, drop-of-length-le}
 use lib.Seq.{drop-cons}
 use Rattle.number.specs.Place.{Room, Wrote}
-use Rattle.breakdown.proofs.Loop as Loop
+use Rattle.breakdown.proofs.Reached as Text
 use Rattle.sheet_lines.specs.Sheet.{line}
 use Rattle.sheet_lines.specs.Steps.{sum, cutLines, Cuts}
 
@@ -32,16 +32,16 @@ module _ (texts ns old : List ℕ) (at : ℕ) where
     pub within : i ≤ length ns
     pub from : start ≡ sum (take i ns)
     pub cuts : Cuts old at texts ns
-    pub going : Loop.Going linesFrom old at out place i
+    pub going : Text.Reached old at (linesFrom 0) (linesFrom i) out place
 
   pub cut-starts : Cuts old at texts ns → Cutting old at 0 0
-  cut-starts h = record { within = omega arith; from = refl; cuts = h; going = Loop.starts linesFrom old at }
+  cut-starts h = record { within = omega arith; from = refl; cuts = h; going = Text.starts }
 
   pub cut-long : {out : List ℕ} {place start i : ℕ} → Cutting out place start i → length out ≡ length old
-  cut-long g = Loop.long linesFrom old at (g .going)
+  cut-long g = Text.long (g .going)
 
   pub cut-done : {out : List ℕ} {place start i : ℕ} → Cutting out place start i → length ns ≤ i → Wrote old out at (cutLines texts 0 ns) place
-  cut-done {i = i} g h = Loop.finished linesFrom old at (g .going) (rw (drop-of-length-le ns {i = i} h))
+  cut-done {i = i} g h = Text.finished (g .going) (rw (drop-of-length-le ns {i = i} h))
 
 module _ {texts ns old : List ℕ} {at : ℕ} {out : List ℕ} {place start i : ℕ} (g : Cutting texts ns old at out place start i) (h : i < length ns) where
   abbrev n : ℕ
@@ -63,7 +63,7 @@ module _ {texts ns old : List ℕ} {at : ℕ} {out : List ℕ} {place start i : 
       rw (d, sum-next, g .from, add-one, drop-cons ns i 0 h)
 
   pub cut-room : Room out place (line cut)
-  cut-room = Loop.room (linesFrom texts ns old at) old at (g .going) (line cut) (i + 1) chunk (g .cuts .room)
+  cut-room = Text.room-part (g .going) (line cut) (linesFrom texts ns old at (i + 1)) chunk (g .cuts .room)
 
   pub cut-step : {new : List ℕ} {r : ℕ} → Wrote out new place (line cut) r → Cutting texts ns old at new r (start + n) (i + 1)
   cut-step w =
@@ -71,5 +71,5 @@ module _ {texts ns old : List ℕ} {at : ℕ} {out : List ℕ} {place start i : 
         within = omega (arith, h);
         from = omega (arith, g .from, sum-next);
         cuts = g .cuts;
-        going = Loop.step (linesFrom texts ns old at) old at (g .going) (line cut) (i + 1) chunk w;
+        going = Text.on (g .going) (line cut) (linesFrom texts ns old at (i + 1)) chunk w;
       }

@@ -1,19 +1,21 @@
 -- The pass: its six texts end to end, measured and written, and what meets its promise. Nothing here speaks of code.
 -- Assumes nothing.
-use Prim.Native.Nat.{ℕ, suc, _+_, _*_, _-_, _≤_, _<_}
+use Prim.Native.Nat.{ℕ, zero, suc, _+_, _*_, _-_, _≤_, _<_}
 use mathlib.Core.Path.{_≡_, refl, sym, ap, _∙_}
-use mathlib.Core.Bool.{true, false}
+use mathlib.Core.Bool.{Bool, true, false, _&&_}
+use mathlib.Core.Logic.{_≢_, ⊎-elim}
 use mathlib.Core.List.{List, [], _∷_}
 use native.Mathlib.Omega.{arith}
 use lib.Dec.{leb}
-use lib.ListN.{length, take, length-append}
+use lib.ListN.{length, take, getD, length-append}
 use lib.Seq.{length-take-le}
-use borrow.Author.Tests.{le-leb, lt-leb}
+use borrow.Author.Tests.{le-leb, lt-leb, leb-true}
 use Rattle.number.specs.Place.{Room}
-use Rattle.rules.specs.Chart.{classes, activePart, tokens, counts}
+use Rattle.number.specs.Questions.{question, firstNo}
+use Rattle.rules.specs.Chart.{classes, activePart, runs, tokens, counts}
+use Rattle.rules.specs.declared.Kind.{Kind}
 use Rattle.rules.specs.declared.Kind.the-variants.{Sn as sn, Standard as standard}
 use Rattle.rules.specs.Texts.{text, passKinds, endToEnd}
-use Rattle.rules.specs.declared.BreakdownMode.{BreakdownMode}
 use Rattle.rules.specs.declared.BreakdownMode.the-variants as Mode
 use Rattle.rules.specs.declared.StreamBreakdownLevel.the-variants as Level
 use Rattle.rules.specs.declared.StreamCounts.{StreamCounts}
@@ -22,13 +24,16 @@ use Rattle.measures.specs.Scan.{InSlices, paired}
 use Rattle.measures.proofs.Part.{part-runs}
 use Rattle.measures.proofs.Counted.{tokens-few}
 use Rattle.measures.proofs.Written.{withinC, withinN, back}
-use Rattle.breakdown.specs.Source.{Source}
-use Rattle.breakdown.specs.Sn.{limitOf, snText}
-use Rattle.breakdown.specs.Standard.{standardText}
-use Rattle.breakdown.proofs.Modes.{from-measures, source-tokens, sn-text, detailed-text, partial-text, simple-text}
+use Rattle.breakdown.specs.Parts.{Tokens}
+use Rattle.breakdown.specs.Forms.{formOf, isTotal, textOf}
+use Rattle.breakdown.specs.Lengths.{DueOf}
+use Rattle.breakdown.specs.declared.form.Form.{Form}
+use Rattle.breakdown.specs.declared.length.Due.{Due}
+use Rattle.breakdown.proofs.Measures.{paired-length}
+use Rattle.breakdown.proofs.Modes.{part-tokens, tokens-of, form-text}
 use Rattle.streams.proofs.EndToEnd.{Chain, from-start}
 use Rattle.streams.specs.Promises.{passNo, Outputs}
-use Rattle.streams.specs.Pass.{Tokened, SixTexts, refusedPass}
+use Rattle.streams.specs.Pass.{FirstNo, Shorter, Tokened, SixTexts, refusedPass}
 
 -- ---- measured
 
@@ -38,38 +43,31 @@ roomy m =
     simp length-append
     (omega (arith, text-most m (sn Mode.Detailed), text-most m (sn Mode.Partial), text-most m (sn Mode.Simplified), text-most m (standard Level.Detailed), text-most m (standard Level.Partial), text-most m (standard Level.Simple)))
 
-module _ (m part : List ℕ) (e : part ≡ activePart m) where
-  -- the lengths of the six texts, from the measures of the active part
-  pub all-six : length (snText 0 part [] [] 0) + length (snText 1 part [] [] 0) + length (snText 4 part [] [] 0) + length (standardText false 0 part [] []) + length (standardText true 0 part [] []) + length (standardText true 1 part [] []) ≡ length (endToEnd passKinds m)
-  all-six =
-      let f = from-measures m in
-      let p = activePart m in
-      rw (e, sn-text p [] [] m f Mode.Detailed, sn-text p [] [] m f Mode.Partial, sn-text p [] [] m f Mode.Simplified, detailed-text p [] [] m f, partial-text p [] [] m f, simple-text p [] [] m f)
+module _ (m part : List ℕ) (e : part ≡ activePart m) {r : Due} (d : DueOf (runs (classes part)) r) where
+  read : runs (classes part) ≡ tokens (classes m)
+  read = rw e (part-tokens m)
+
+  pub due-tokens : r .tokens ≡ length (tokens (classes m))
+  due-tokens = d .number ∙ ap length read
+
+  is-text : (k : Kind) → isTotal k ≡ false → length (textOf (formOf k) (runs (classes part))) ≡ length (text k m)
+  is-text k h = ap length (form-text (runs (classes part)) m read k h)
+
+  -- the sum of the six lengths
+  pub due-bytes : getD (r .lengths) 0 0 + getD (r .lengths) 1 0 + getD (r .lengths) 2 0 + getD (r .lengths) 3 0 + getD (r .lengths) 4 0 + getD (r .lengths) 5 0 ≡ length (endToEnd passKinds m)
+  due-bytes =
+      rw (d .bytes, is-text (sn Mode.Detailed) refl, is-text (sn Mode.Partial) refl, is-text (sn Mode.Simplified) refl, is-text (standard Level.Detailed) refl, is-text (standard Level.Partial) refl, is-text (standard Level.Simple) refl)
       (simp length-append (omega arith))
 
 -- ---- written
 
-paired-length : (cs ns : List ℕ) → length cs ≡ length ns → length (paired cs ns) ≡ length cs
-paired-length [] ns e = refl
-paired-length (c ∷ cs) [] e = sym e
-paired-length (c ∷ cs) (n ∷ ns) e = ap suc (paired-length cs ns (omega arith))
-
 module _ {m cs ns old : List ℕ} (t : Tokened m cs ns old) where
-  pub source : Source [] cs ns
-  source = source-tokens cs ns m (t .tokens) (t .long) (omega (arith, paired-length cs ns (t .long), ap {B = ℕ} length (t .tokens), tokens-few m, t .few))
+  pub source : Tokens cs ns
+  source = tokens-of cs ns m (t .tokens) (t .long) (omega (arith, paired-length cs ns (t .long), ap {B = ℕ} length (t .tokens), tokens-few m, t .few))
 
   -- each text, from the tokens in the slices
-  pub is-sn : (mode : BreakdownMode) → snText (limitOf mode) [] cs ns 0 ≡ text (sn mode) m
-  is-sn = sn-text [] cs ns m (t .tokens)
-
-  pub is-detailed : standardText false 0 [] cs ns ≡ text (standard Level.Detailed) m
-  is-detailed = detailed-text [] cs ns m (t .tokens)
-
-  pub is-partial : standardText true 0 [] cs ns ≡ text (standard Level.Partial) m
-  is-partial = partial-text [] cs ns m (t .tokens)
-
-  pub is-simple : standardText true 1 [] cs ns ≡ text (standard Level.Simple) m
-  is-simple = simple-text [] cs ns m (t .tokens)
+  pub made : (k : Kind) → isTotal k ≡ false → {f : Form} → f ≡ formOf k → textOf f (paired cs ns) ≡ text k m
+  made k h e = ap (λ (f : Form). textOf f (paired cs ns)) e ∙ form-text (paired cs ns) m (t .tokens) k h
 
   pub room : Room old 0 (endToEnd passKinds m)
   room = record { fits = omega (arith, t .room) }
@@ -77,40 +75,80 @@ module _ {m cs ns old : List ℕ} (t : Tokened m cs ns old) where
   pub six : {new ls : List ℕ} {a : ℕ} → Chain m passKinds old 0 new ((a - 0) ∷ ls) → SixTexts m old new (a ∷ ls)
   six c = let s = from-start m (t .room) c in record { each = s .0; bytes = s .1 }
 
--- ---- the pass
+-- ---- questions 1, 2 and 4
 
-module _ (m cs ns old : List ℕ) where
-  refused : (j : ℕ) → passNo m cs ns old ≡ suc j → Outputs m cs cs ns ns old old (refusedPass (suc j))
-  refused j e = record { answer = rw e; inClasses = rw e; inLengths = rw e; bytes = rw e }
+and-false : (a : Bool) → a && false ≡ false
+and-false true = refl
+and-false false = refl
 
-  -- questions 1, 2 and 4
-  pub no-1 : 1048576 < length m → Outputs m cs cs ns ns old old (refusedPass 1)
-  no-1 h = refused 0 (rw (lt-leb (length m) 1048576 h))
+module _ (m : List ℕ) (c n room : ℕ) where
+  pub no-1 : 1048576 < length m → FirstNo m c n room 1
+  no-1 h cs ns old e f g = rw (lt-leb (length m) 1048576 h)
 
   module _ (few : length m ≤ 1048576) where
-    pub no-2-classes : leb (length (tokens (classes m))) (length cs) ≡ false → Outputs m cs cs ns ns old old (refusedPass 2)
-    no-2-classes a = refused 1 (rw (le-leb (length m) 1048576 few, a))
+    abbrev due : ℕ
+    due = length (tokens (classes m))
 
-    module _ (a : leb (length (tokens (classes m))) (length cs) ≡ true) where
-      pub no-2-lengths : leb (length (tokens (classes m))) (length ns) ≡ false → Outputs m cs cs ns ns old old (refusedPass 2)
-      no-2-lengths b = refused 1 (rw (le-leb (length m) 1048576 few, a, b))
+    abbrev bytes : ℕ
+    bytes = length (endToEnd passKinds m)
 
-      module _ (b : leb (length (tokens (classes m))) (length ns) ≡ true) where
-        pub no-4 : leb (length (endToEnd passKinds m)) (length old) ≡ false → Outputs m cs cs ns ns old old (refusedPass 4)
-        no-4 d = refused 3 (rw (le-leb (length m) 1048576 few, a, b, d))
+    pub no-2 : {r : ℕ} → Shorter c n r → r < due → FirstNo m c n room 2
+    no-2 s h cs ns old e f g =
+        ⊎-elim
+        (λ i. rw (le-leb (length m) 1048576 few, lt-leb due (length cs) (omega (arith, i, e, h))))
+        (λ i. rw (le-leb (length m) 1048576 few, lt-leb due (length ns) (omega (arith, i, f, h)), and-false))
+        (s .one)
 
-        -- accepted: the scan's tokens and counts, and the texts
-        pub passed : leb (length (endToEnd passKinds m)) (length old) ≡ true → {k : ℕ} {cs′ ns′ new ls : List ℕ} {n : StreamCounts}
-            → n ≡ counts (classes m) → InSlices (tokens (classes m)) k cs cs′ ns ns′ → SixTexts m old new ls
-            → Outputs m cs cs′ ns ns′ old new (record { refused = 0; counts = n; tokens = k; lengths = ls })
-        passed d h w s =
-            let e : passNo m cs ns old ≡ 0 = rw (le-leb (length m) 1048576 few, a, b, d) in
-            record {
-              answer = rw (e, h, w .number, s .each);
-              inClasses = rw e (w .inClasses);
-              inLengths = rw e (w .inLengths);
-              bytes = rw e (s .bytes);
-            }
+    module _ (a : due ≤ c) (b : due ≤ n) where
+      pub no-4 : room < bytes → FirstNo m c n room 4
+      no-4 l cs ns old e f g = rw (le-leb (length m) 1048576 few, le-leb due (length cs) (rw e a), le-leb due (length ns) (rw f b), lt-leb bytes (length old) (rw g l))
+
+      pub no-0 : bytes ≤ room → FirstNo m c n room 0
+      no-0 l cs ns old e f g = rw (le-leb (length m) 1048576 few, le-leb due (length cs) (rw e a), le-leb due (length ns) (rw f b), le-leb bytes (length old) (rw g l))
+
+-- ---- the pass
+
+-- all four are answered with yes
+pub record Fitting (m cs ns old : List ℕ) : Type 0 where
+  pub few : length m ≤ 1048576
+  pub roomC : length (tokens (classes m)) ≤ length cs
+  pub roomN : length (tokens (classes m)) ≤ length ns
+  pub fits : length (endToEnd passKinds m) ≤ length old
+
+module _ (m cs ns old : List ℕ) {no : ℕ} (e : no ≡ passNo m cs ns old) where
+  pub refused : no ≢ 0 → Outputs m cs cs ns ns old old (refusedPass no)
+  refused h = go no h e
+    where
+      go : (j : ℕ) → j ≢ 0 → j ≡ passNo m cs ns old → Outputs m cs cs ns ns old old (refusedPass j)
+      go zero h e = absurd (h refl)
+      go (suc j) h e = record { answer = rw (← e); inClasses = rw (← e); inLengths = rw (← e); bytes = rw (← e) }
+
+  -- no question was answered with no
+  module _ (z : no ≡ 0) where
+    all : (leb (length m) 1048576 ≡ true) × (leb (length (tokens (classes m))) (length cs) ≡ true) × (leb (length (tokens (classes m))) (length ns) ≡ true) × (leb (length (endToEnd passKinds m)) (length old) ≡ true)
+    all = go _ _ _ _ (sym e ∙ z)
+      where
+        go : (a b c d : Bool) → firstNo (question 1 a ∷ question 2 (b && c) ∷ question 4 d ∷ []) ≡ 0 → (a ≡ true) × (b ≡ true) × (c ≡ true) × (d ≡ true)
+        go true true true true h = (refl, refl, refl, refl)
+        go true true true false h = absurd (omega arith)
+        go true true false d h = absurd (omega arith)
+        go true false c d h = absurd (omega arith)
+        go false b c d h = absurd (omega arith)
+
+    pub fitting : Fitting m cs ns old
+    fitting = record { few = leb-true _ _ (all .0); roomC = leb-true _ _ (all .1); roomN = leb-true _ _ (all .2); fits = leb-true _ _ (all .3) }
+
+    -- accepted: the scan's tokens and counts, and the texts
+    pub passed : {k : ℕ} {cs′ ns′ new ls : List ℕ} {n : StreamCounts} → n ≡ counts (classes m) → InSlices (tokens (classes m)) k cs cs′ ns ns′ → SixTexts m old new ls
+        → Outputs m cs cs′ ns ns′ old new (record { refused = 0; counts = n; tokens = k; lengths = ls })
+    passed h w s =
+        let y : passNo m cs ns old ≡ 0 = sym e ∙ z in
+        record {
+          answer = rw (y, h, w .number, s .each);
+          inClasses = rw y (w .inClasses);
+          inLengths = rw y (w .inLengths);
+          bytes = rw y (s .bytes);
+        }
 
 -- the tokens that the scan wrote
 pub tokened : {m cs cs′ ns ns′ old : List ℕ} {k : ℕ} → InSlices (tokens (classes m)) k cs cs′ ns ns′ → length m ≤ 1048576 → length (endToEnd passKinds m) ≤ length old

@@ -1,57 +1,35 @@
--- A text of crate `breakdown`, made from the measures of the active part, is the chart's; and the most bytes of a text. Both for every kind.
+-- A text of crate `breakdown`, made from the measures of the active part, is the chart's; and the most bytes of a text. All for every kind.
 -- Assumes nothing.
 use Prim.Native.Nat.{ℕ, _+_, _*_, _≤_}
-use mathlib.Core.Path.{_≡_}
-use mathlib.Core.Bool.{true, false}
-use mathlib.Core.List.{List, []}
+use mathlib.Core.Path.{_≡_, sym}
+use mathlib.Core.Bool.{true, false, true≢false}
+use mathlib.Core.List.{List}
 use native.Mathlib.Omega.{arith}
 use lib.ListN.{length}
-use Rattle.number.specs.Place.{Room, Wrote}
-use Rattle.rules.specs.Chart.{classes, activePart, tokens, streams}
+use Rattle.rules.specs.Chart.{classes, activePart, runs, streams}
 use Rattle.rules.specs.Texts.{text}
 use Rattle.rules.specs.declared.Kind.{Kind}
 use Rattle.rules.specs.declared.Kind.the-variants.{Sn as sn, Standard as standard}
 use Rattle.rules.specs.declared.StreamBreakdownLevel.the-variants as Level
 use Rattle.rules.proofs.Bound.{text-most}
 use Rattle.measures.specs.Domain.{Domain}
-use Rattle.breakdown.specs.Source.{from, Source}
-use Rattle.breakdown.specs.Sn.{limitOf, snText}
-use Rattle.breakdown.specs.Standard.{standardText, totalText}
-use Rattle.breakdown.proofs.Modes.{from-measures, source-measures, sn-text, detailed-text, partial-text, simple-text, total-text}
+use Rattle.breakdown.specs.Forms.{formOf, isTotal, textOf, ActiveMeasures}
+use Rattle.breakdown.specs.Standard.{totalText}
+use Rattle.breakdown.proofs.Modes.{part-tokens, active-measures, form-text, total-text}
 
-module _ (m part : List ℕ) where
-  -- the text by the settings for each kind
-  abbrev pub made : Kind → List ℕ
-  made (sn mode) = snText (limitOf mode) part [] [] 0
-  made (standard Level.Detailed) = standardText false 0 part [] []
-  made (standard Level.Partial) = standardText true 0 part [] []
-  made (standard Level.Simple) = standardText true 1 part [] []
-  made (standard Level.Total) = totalText (streams (classes m))
+module _ (m part : List ℕ) (e : part ≡ activePart m) where
+  pub source : Domain m → ActiveMeasures part
+  source d = rw e (active-measures m (d .few))
 
-  module _ (e : part ≡ activePart m) where
-    read : from part [] [] 0 ≡ tokens (classes m)
-    read = rw e (from-measures m)
+  pub is-text : (k : Kind) → isTotal k ≡ false → textOf (formOf k) (runs (classes part)) ≡ text k m
+  is-text k h = form-text (runs (classes part)) m (rw e (part-tokens m)) k h
 
-    made-text : (k : Kind) → made k ≡ text k m
-    made-text (sn mode) = sn-text part [] [] m read mode
-    made-text (standard Level.Detailed) = detailed-text part [] [] m read
-    made-text (standard Level.Partial) = partial-text part [] [] m read
-    made-text (standard Level.Simple) = simple-text part [] [] m read
-    made-text (standard Level.Total) = total-text m
-
-    pub source : Domain m → Source part [] []
-    source d = rw e (source-measures m (d .few))
-
-    -- in the arm for the kind k
-    module _ {kind k : Kind} (f : kind ≡ k) where
-      pub due : {r : ℕ} → r ≡ length (made k) → r ≡ length (text kind m)
-      due h = rw (f, ← made-text k) h
-
-      pub ready : {out : List ℕ} {at : ℕ} → Domain m × Room out at (text kind m) → Source part [] [] × Room out at (made k)
-      ready (d, r) = (source d, rw (made-text k, ← f) r)
-
-      pub put : {out new : List ℕ} {at r : ℕ} → Wrote out new at (made k) r → Wrote out new at (text kind m) r
-      put w = rw (f, ← made-text k) w
+pub total : (m : List ℕ) (k : Kind) → isTotal k ≡ true → totalText (streams (classes m)) ≡ text k m
+total m (standard Level.Total) h = total-text m
+total m (sn mode) h = absurd (true≢false (sym h))
+total m (standard Level.Detailed) h = absurd (true≢false (sym h))
+total m (standard Level.Partial) h = absurd (true≢false (sym h))
+total m (standard Level.Simple) h = absurd (true≢false (sym h))
 
 pub text-short : (m : List ℕ) (k : Kind) → length (text k m) ≤ 4 * length m + 11
 text-short m (sn mode) = omega (arith, text-most m (sn mode))

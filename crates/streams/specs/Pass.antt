@@ -2,13 +2,25 @@
 -- Assumes nothing.
 use Prim.Native.Nat.{ℕ, _≤_}
 use mathlib.Core.Path.{_≡_}
+use mathlib.Core.Logic.{_⊎_}
 use mathlib.Core.List.{List}
 use lib.ListN.{length, replicate}
 use Rattle.number.specs.Questions.{filled}
 use Rattle.rules.specs.Chart.{classes, tokens, noCounts}
 use Rattle.rules.specs.Texts.{passKinds, endToEnd, lengthsOf}
 use Rattle.measures.specs.Scan.{paired}
+use Rattle.streams.specs.Promises.{passNo}
 use Rattle.streams.specs.declared.StreamOutputs.{StreamOutputs}
+
+-- r is the number of the pass's first no, or 0, where the lent slices have so many places
+abbrev pub FirstNo : List ℕ → ℕ → ℕ → ℕ → ℕ → Type 0
+FirstNo m c n room r = (cs ns old : List ℕ) → length cs ≡ c → length ns ≡ n → length old ≡ room → r ≡ passNo m cs ns old
+
+-- r is the smaller of two numbers of places
+pub record Shorter (c n r : ℕ) : Type 0 where
+  pub first : r ≤ c
+  pub second : r ≤ n
+  pub one : (r ≡ c) ⊎ (r ≡ n)
 
 -- a chart of the domain, its tokens in two slices, and a text slice as long as its six texts
 pub record Tokened (m cs ns old : List ℕ) : Type 0 where

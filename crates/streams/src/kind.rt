@@ -1,21 +1,8 @@
-// A mode's join limit, and levels by their numbers.
-use rules::BreakdownMode;
+// Levels by their numbers.
 use rules::StreamBreakdownLevel;
 ghost use mathlib.Core.Path.{_≡_};
 ghost use Prim.Native.Nat.{_≤_};
 ghost use Rattle.rules.specs.Calls.{levelNumber};
-ghost use Rattle.breakdown.specs.Sn.{limitOf};
-
-// The longest break over which runs of one class join.
-pub fn sn_limit(mode: BreakdownMode) -> u32
-    ensures { λ r. ⌜ r ≡ limitOf mode ⌝ }
-{
-    match mode {
-        BreakdownMode::Detailed => 0,
-        BreakdownMode::Partial => 1,
-        BreakdownMode::Simplified => 4,
-    }
-}
 
 // The level's number, from 1 to 4.
 pub fn level_number(level: StreamBreakdownLevel) -> u32

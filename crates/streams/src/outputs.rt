@@ -1,46 +1,56 @@
 // The pass: tokens, counts and six texts of a chart.
 use crate::StreamOutputs;
-use breakdown::sn::sn_length;
-use breakdown::sn::sn_text;
-use breakdown::standard::standard_length;
-use breakdown::standard::standard_text;
+use breakdown::form::sn_form;
+use breakdown::form::standard_form;
+use breakdown::length::due_of_measures;
+use breakdown::text::text_of_tokens;
 use measures::active::active_range;
 use measures::counts::no_counts;
 use measures::scan::scan;
-use measures::scan::tokens_fit;
+ghost use Prim.Native.Nat.{_+_, _*_, _≤_};
 ghost use mathlib.Core.Path.{_≡_};
-ghost use lib.Dec.{leb};
-ghost use lib.ListN.{length};
-ghost use Rattle.rules.specs.Texts.{endToEnd, passKinds};
-ghost use Rattle.measures.specs.Domain.{Domain};
+ghost use mathlib.Core.Bool.{true};
 ghost use Rattle.streams.specs.Promises.{Outputs};
-ghost use Rattle.streams.specs.Pass.{SixTexts, refusedPass, Tokened};
+ghost use Rattle.streams.specs.Pass.{FirstNo, Shorter, SixTexts, refusedPass, Tokened};
 
-// The length of all six texts.
-fn six_length(m: &[u32]) -> usize
-    requires { ⌜ Domain (now m) ⌝ }
-    ensures { λ r. ⌜ r ≡ length (endToEnd passKinds (now (m .entry))) ⌝ }
+// The places of the shorter token slice.
+fn shorter(classes: usize, lengths: usize) -> usize
+    ensures { λ r. ⌜ Shorter classes lengths r ⌝ }
 {
-    let part = active_range(m);
-    let none = &m[..0];
-    let a = sn_length(part, b"", none, 0);
-    let b = sn_length(part, b"", none, 1);
-    let c = sn_length(part, b"", none, 4);
-    let d = standard_length(part, b"", none, 0, false);
-    let e = standard_length(part, b"", none, 0, true);
-    let f = standard_length(part, b"", none, 1, true);
-    a + b + c + d + e + f
+    if classes < lengths { classes } else { lengths }
 }
 
-// Question 4. The texts are measured only where the slice has fewer bytes than texts of so many measures can have.
-fn texts_fit(m: &[u32], room: usize) -> bool
-    requires { ⌜ Domain (now m) ⌝ }
-    ensures { λ r. ⌜ r ≡ leb (length (endToEnd passKinds (now (m .entry)))) room ⌝ }
+// Is there room for all that a chart of n measures can need?
+fn surely_fit(n: usize, places: usize, room: usize) -> bool
+    requires { ⌜ n ≤ 1048576 ⌝ }
+    ensures { λ r. ⌜ (r ≡ true → (n ≤ places) × (17 * n + 33 ≤ room)) ⌝ }
 {
-    if 17 * m.len() + 33 <= room {
-        return true;
+    if n > places {
+        return false;
     }
-    six_length(m) <= room
+    17 * n + 33 <= room
+}
+
+// Questions 1, 2 and 4: the number of the first whose answer is no, or 0. What is due is counted only where a slice could be too short.
+fn first_no(m: &[u32], classes: usize, lengths: usize, room: usize) -> u32
+    ensures { λ r. ⌜ FirstNo (now (m .entry)) classes lengths room r ⌝ }
+{
+    if m.len() > 1048576 {
+        return 1;
+    }
+    let places = shorter(classes, lengths);
+    if surely_fit(m.len(), places, room) {
+        return 0;
+    }
+    let due = due_of_measures(active_range(m));
+    if due.tokens > places {
+        return 2;
+    }
+    let l = due.lengths;
+    if l[0] + l[1] + l[2] + l[3] + l[4] + l[5] > room {
+        return 4;
+    }
+    0
 }
 
 // The six texts end to end, from the tokens of `m`; the length of each is answered.
@@ -48,13 +58,13 @@ fn put_texts(m: &[u32], classes: &[u8], lengths: &[u32], out: &mut [u8]) -> [usi
     requires { ⌜ Tokened (now m) (now classes) (now lengths) (now out) ⌝ }
     ensures { λ r. ⌜ SixTexts (now (m .entry)) (now (out .entry)) (now (out .exit)) r ⌝ }
 {
-    let none = &m[..0];
-    let a = sn_text(none, classes, lengths, 0, out, 0);
-    let b = sn_text(none, classes, lengths, 1, out, a);
-    let c = sn_text(none, classes, lengths, 4, out, b);
-    let d = standard_text(none, classes, lengths, 0, false, out, c);
-    let e = standard_text(none, classes, lengths, 0, true, out, d);
-    let f = standard_text(none, classes, lengths, 1, true, out, e);
+    let mut buf = [0u8; 512];
+    let a = text_of_tokens(classes, lengths, sn_form(0), &mut buf, out, 0);
+    let b = text_of_tokens(classes, lengths, sn_form(1), &mut buf, out, a);
+    let c = text_of_tokens(classes, lengths, sn_form(4), &mut buf, out, b);
+    let d = text_of_tokens(classes, lengths, standard_form(0, false), &mut buf, out, c);
+    let e = text_of_tokens(classes, lengths, standard_form(0, true), &mut buf, out, d);
+    let f = text_of_tokens(classes, lengths, standard_form(1, true), &mut buf, out, e);
     [a, b - a, c - b, d - c, e - d, f - e]
 }
 
@@ -78,17 +88,9 @@ pub fn compute_stream_outputs(
 ) -> StreamOutputs
     ensures { λ r. ⌜ Outputs (now (m .entry)) (now (classes .entry)) (now (classes .exit)) (now (lengths .entry)) (now (lengths .exit)) (now (out .entry)) (now (out .exit)) r ⌝ }
 {
-    if m.len() > 1048576 {
-        return refused(1);
-    }
-    if !tokens_fit(m, classes.len()) {
-        return refused(2);
-    }
-    if !tokens_fit(m, lengths.len()) {
-        return refused(2);
-    }
-    if !texts_fit(m, out.len()) {
-        return refused(4);
+    let no = first_no(m, classes.len(), lengths.len(), out.len());
+    if no != 0 {
+        return refused(no);
     }
     let scanned = scan(m, classes, lengths);
     let counts = scanned.counts;

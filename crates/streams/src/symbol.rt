@@ -1,4 +1,5 @@
 // One run as an SN text shows it.
+use breakdown::run::Run;
 use breakdown::run::put_run;
 use breakdown::run::run_length;
 use number::Written;
@@ -31,13 +32,19 @@ pub fn format_run_symbol(class: RunDensity, length: u64, star: bool, out: &mut [
             length: 0,
         };
     }
-    if out.len() < run_length(c, length, star) {
+    let run = Run {
+        class: c,
+        length,
+        starred: star,
+    };
+    if out.len() < run_length(run) {
         return Written {
             refused: 4,
             length: 0,
         };
     }
-    let n = put_run(out, 0, c, length, star);
+    let mut buf = [0u8; 24];
+    let n = put_run(out, 0, &mut buf, run);
     Written {
         refused: 0,
         length: n,

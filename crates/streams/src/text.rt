@@ -1,15 +1,13 @@
 // One text by its kind, measured and written from the measures, with no token slice.
-use crate::kind::sn_limit;
-use breakdown::sn::sn_length;
-use breakdown::sn::sn_text;
-use breakdown::standard::standard_length;
-use breakdown::standard::standard_text;
+use breakdown::form::form_of;
+use breakdown::form::is_total;
+use breakdown::length::length_of_measures;
+use breakdown::text::text_of_measures;
 use breakdown::total::total_length;
 use breakdown::total::total_text;
 use measures::active::active_range;
 use measures::counts::chart_counts;
 use rules::Kind;
-use rules::StreamBreakdownLevel;
 ghost use mathlib.Core.Path.{_≡_};
 ghost use lib.Dec.{leb};
 ghost use lib.ListN.{length};
@@ -35,17 +33,10 @@ pub fn text_due(m: &[u32], kind: Kind) -> usize
     requires { ⌜ Domain (now m) ⌝ }
     ensures { λ r. ⌜ r ≡ length (text kind (now (m .entry))) ⌝ }
 {
-    let part = active_range(m);
-    let none = &m[..0];
-    match kind {
-        Kind::Sn(mode) => sn_length(part, b"", none, sn_limit(mode)),
-        Kind::Standard(level) => match level {
-            StreamBreakdownLevel::Detailed => standard_length(part, b"", none, 0, false),
-            StreamBreakdownLevel::Partial => standard_length(part, b"", none, 0, true),
-            StreamBreakdownLevel::Simple => standard_length(part, b"", none, 1, true),
-            StreamBreakdownLevel::Total => total_length(stream_count(m)),
-        },
+    if is_total(kind) {
+        return total_length(stream_count(m));
     }
+    length_of_measures(active_range(m), form_of(kind))
 }
 
 // Question 4. The text is measured only where the slice could be too short for it.
@@ -64,15 +55,8 @@ pub fn put_text(m: &[u32], kind: Kind, out: &mut [u8], at: usize) -> usize
     requires { ⌜ Domain (now m) × Room (now out) at (text kind (now m)) ⌝ }
     ensures { λ r. ⌜ Wrote (now (out .entry)) (now (out .exit)) at (text kind (now (m .entry))) r ⌝ }
 {
-    let part = active_range(m);
-    let none = &m[..0];
-    match kind {
-        Kind::Sn(mode) => sn_text(part, b"", none, sn_limit(mode), out, at),
-        Kind::Standard(level) => match level {
-            StreamBreakdownLevel::Detailed => standard_text(part, b"", none, 0, false, out, at),
-            StreamBreakdownLevel::Partial => standard_text(part, b"", none, 0, true, out, at),
-            StreamBreakdownLevel::Simple => standard_text(part, b"", none, 1, true, out, at),
-            StreamBreakdownLevel::Total => total_text(stream_count(m), out, at),
-        },
+    if is_total(kind) {
+        return total_text(stream_count(m), out, at);
     }
+    text_of_measures(active_range(m), form_of(kind), out, at)
 }

@@ -1,21 +1,24 @@
--- `breakdown::put::put_bytes` meets its contract: the loop's invariant and its steps are `Loop`'s.
+-- `breakdown::put::put_bytes` meets its contract: the loop's invariant and its steps are `Reached`'s.
 -- Assumes nothing.
-use Prim.Native.Nat.{_+_, _-_, _≤_}
-use lib.ListN.{length, drop, drop-of-length-le}
-use Rattle.number.specs.Place.{Room}
-use Rattle.breakdown.proofs.Loop.{Going, starts, long, room, step, finished, byte-chunk}
+use Prim.Native.Nat.{_-_, _≤_}
+use mathlib.Core.List.{_∷_, []}
+use native.Mathlib.Numerals.{add-one}
 use native.Mathlib.Omega.{arith}
+use lib.ListN.{length, drop, getD, drop-of-length-le}
+use lib.Seq.{drop-cons}
+use Rattle.number.specs.Place.{Room}
+use Rattle.breakdown.proofs.Reached.{Reached, starts, long, room-part, on, finished}
 use Rattle.breakdown.proofs.put.put_bytes.Statement.{statement}
 use Rattle.breakdown.proofs.put.put_bytes.Tie as tie
 
 abbrev Inv-loop : tie.InvT-loop
-Inv-loop out₀ at text place₀ i₀ out place i = (i ≤ length text) × Room out₀ at text × Going (λ j. drop j text) out₀ at out place i
+Inv-loop out₀ at text place₀ i₀ out place i = (i ≤ length text) × Room out₀ at text × Reached out₀ at text (drop i text) out place
 
 abbrev μ-loop : tie.MeasureT-loop
 μ-loop out₀ at text place₀ i₀ out place i = length text - i
 
 loop-holds : tie.Need-loop-holds Inv-loop μ-loop
-loop-holds c = (omega arith, c .before .before .pre, starts _ _ _)
+loop-holds c = (omega arith, c .before .before .pre, starts)
 
 shared-slice-read-put-one : tie.Need-shared-slice-read-put-one Inv-loop μ-loop
 shared-slice-read-put-one c = omega arith
@@ -24,7 +27,7 @@ put-one-requires : tie.Need-put-one-requires Inv-loop μ-loop
 put-one-requires c κs =
     let l = c .before .before .before .loop in
     let text = c .before .before .before .before .before .before .args .text .now in
-    room _ _ _ (l .inv .2) _ (l .i + 1) (byte-chunk text (l .i) (c .before .before .loop-test .taken)) (l .inv .1)
+    room-part (l .inv .2) (getD text (l .i) 0 ∷ []) _ (drop-cons text (l .i) 0 (c .before .before .loop-test .taken)) (l .inv .1)
 
 add-i : tie.Need-add-i Inv-loop μ-loop
 add-i c = omega arith
@@ -36,14 +39,14 @@ loop-again : tie.Need-loop-again Inv-loop μ-loop
 loop-again c =
     let l = c .before .before .before .before .before .before .loop in
     let text = c .before .before .before .before .before .before .before .before .before .args .text .now in
-    let e = byte-chunk text (l .i) (c .before .before .before .before .before .loop-test .taken) in
-    (omega arith, l .inv .1, step _ _ _ (l .inv .2) _ (l .i + 1) e (c .before .before .put-one .ensures))
+    let e = drop-cons text (l .i) 0 (c .before .before .before .before .before .loop-test .taken) in
+    (omega arith, l .inv .1, rw add-one (on (l .inv .2) (getD text (l .i) 0 ∷ []) _ e (c .before .before .put-one .ensures)))
 
 same-length : tie.Need-same-length Inv-loop μ-loop
-same-length c = long _ _ _ (c .before .loop .inv .2)
+same-length c = long (c .before .loop .inv .2)
 
 returns : tie.Need-returns Inv-loop μ-loop
-returns c = finished _ _ _ (c .before .loop .inv .2) (drop-of-length-le _ (c .loop-test .left))
+returns c = finished (c .before .loop .inv .2) (drop-of-length-le _ (c .loop-test .left))
 
 pub put-bytes-spec : {M : Type 1} → statement M
 put-bytes-spec =

@@ -1,22 +1,17 @@
 -- `breakdown::run::mark_byte` meets its contract.
 -- Assumes nothing.
-use mathlib.Core.Path.{sym}
-use Rattle.breakdown.proofs.Bytes.{mark-none, mark-more}
-use native.Mathlib.Omega.{arith}
+use mathlib.Core.Path.{ap, _∙_}
+use Rattle.breakdown.specs.Put.{byteText}
+use Rattle.breakdown.proofs.Bytes.{mark-at}
+use borrow.Author.Needs.{needs}
 use Rattle.breakdown.proofs.run.mark_byte.Statement.{statement}
 use Rattle.breakdown.proofs.run.mark_byte.Tie as tie
 
+byte-for-requires : tie.Need-byte-for-requires
+byte-for-requires c κs = search needs
+
 returns : tie.Need-returns
-returns c = sym (mark-none _ (c .if1 .taken))
-
-returns-2 : tie.Need-returns-2
-returns-2 c = rw (c .if2 .taken)
-
-returns-3 : tie.Need-returns-3
-returns-3 c = rw (c .if3 .taken)
-
-returns-4 : tie.Need-returns-4
-returns-4 c = sym (mark-more (c .before .before .before .args .class) (omega arith))
+returns c = ap byteText (c .byte-for .ensures) ∙ mark-at (c .before .args .class)
 
 pub mark-byte-spec : {M : Type 1} → statement M
-mark-byte-spec = tie.close (tie.spec returns returns-2 returns-3 returns-4)
+mark-byte-spec = tie.close (tie.spec byte-for-requires returns)

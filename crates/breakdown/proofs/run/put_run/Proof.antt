@@ -1,57 +1,28 @@
 -- `breakdown::run::put_run` meets its contract.
 -- Assumes nothing.
+use native.Mathlib.Omega.{arith}
 use borrow.Author.Needs.{needs}
-use Rattle.number.proofs.Place.{room-first, room-next, wrote}
+use Rattle.breakdown.proofs.Growing.{within}
 use Rattle.breakdown.proofs.run.put_run.Statement.{statement}
 use Rattle.breakdown.proofs.run.put_run.Tie as tie
 
-mark-byte-requires : tie.Need-mark-byte-requires
-mark-byte-requires c κs = search needs
+add-run-requires : tie.Need-add-run-requires
+add-run-requires c κs = search needs
 
-put-byte-requires : tie.Need-put-byte-requires
-put-byte-requires c κs = room-first _ _ (rw (← (c .before .mark-byte .ensures)) at (c .before .before .before .pre))
-
-put-u64-requires : tie.Need-put-u64-requires
-put-u64-requires c κs =
-    let p = rw (← (c .before .before .before .before .before .mark-byte .ensures)) at (c .before .before .before .before .before .before .before .pre) in
-    room-first _ _ (room-next _ _ (c .before .before .before .put-byte .ensures) p)
-
-put-byte-requires-2 : tie.Need-put-byte-requires-2
-put-byte-requires-2 c κs =
-    let s = c .before .before .before .before .before .before .before .before .before in
-    let p = room-next _ _ (c .before .before .before .before .before .before .before .put-byte .ensures) (rw (← (s .mark-byte .ensures)) at (s .before .before .pre)) in
-    room-first _ _ (room-next _ _ (c .before .before .before .put-u64 .ensures) p)
-
-star-byte-requires : tie.Need-star-byte-requires
-star-byte-requires c κs = search needs
-
-put-byte-requires-3 : tie.Need-put-byte-requires-3
-put-byte-requires-3 c κs =
-    let s = c .before .before .before .before .before .before .before .before .before .before .before .before .before .before in
-    let p = rw (← (s .mark-byte .ensures), ← (c .star-byte .ensures)) at (s .before .before .pre) in
-    let q = room-next _ _ (c .before .before .before .before .before .before .before .before .before .before .before .before .put-byte .ensures) p in
-    room-next _ _ (c .before .before .before .before .put-byte2 .ensures) (room-next _ _ (c .before .before .before .before .before .before .before .before .put-u64 .ensures) q)
+put-buffer-requires : tie.Need-put-buffer-requires
+put-buffer-requires c κs =
+    let g = c .before .before .before .before .add-run .ensures in
+    (within _ (omega arith) g, rw (g .front) (c .before .before .before .before .before .before .before .before .pre .1))
 
 same-length : tie.Need-same-length
 same-length c = search needs
 
+same-length-2 : tie.Need-same-length-2
+same-length-2 c = search needs
+
 returns : tie.Need-returns
-returns c =
-    let mark = c .before .before .before .before .before .before .before .before .before .before .before .before .before .before .before .before .before .mark-byte .ensures in
-    let a = c .before .before .before .before .before .before .before .before .before .before .before .before .before .before .before .put-byte .ensures in
-    let b = c .before .before .before .before .before .before .before .before .before .before .before .put-u64 .ensures in
-    let w = wrote _ _ (c .before .before .before .before .before .before .before .put-byte2 .ensures) (c .before .before .put-byte3 .ensures) in
-    rw (← mark, ← (c .before .before .before .star-byte .ensures)) (wrote _ _ a (wrote _ _ b w))
+returns c = rw (c .before .before .before .before .before .before .before .add-run .ensures .front) at (c .before .before .put-buffer .ensures)
 
 pub put-run-spec : {M : Type 1} → statement M
 put-run-spec =
-    tie.close
-    (tie.spec
-    mark-byte-requires
-    put-byte-requires
-    put-u64-requires
-    put-byte-requires-2
-    star-byte-requires
-    put-byte-requires-3
-    same-length
-    returns)
+    tie.close (tie.spec add-run-requires put-buffer-requires same-length same-length-2 returns)

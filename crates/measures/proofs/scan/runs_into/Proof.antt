@@ -1,176 +1,171 @@
--- `measures::scan::runs_into` meets its contract: the loops' invariant and its steps are `Going`'s. A chain of `.before` leads from a
+-- `measures::scan::runs_into` meets its contract: the loop's invariant and its steps are `Going`'s. A chain of `.before` leads from a
 -- place of the code to an earlier one.
 -- Assumes nothing.
-use Prim.Native.Nat.{ℕ, _+_, _-_, _≤_, _<_}
-use mathlib.Core.Path.{_∙_, sym}
+use Prim.Native.Nat.{ℕ, _+_, _-_, _≤_}
+use mathlib.Core.Path.{_≡_}
 use mathlib.Core.List.{List}
-use mathlib.Core.Logic.{⊎-elim}
 use native.Mathlib.Omega.{arith}
-use lib.ListN.{length, set, length-set}
+use lib.ListN.{length, set}
 use borrow.Author.Needs.{needs}
-use Rattle.measures.proofs.Going.{Going, Onward, empty, starts, room, skipped, same, other, places, longC, longN, finished}
+use Rattle.measures.specs.Scan.{Going, Steps}
+use Rattle.measures.proofs.Going.{empty, starts, room, skipped, places, longC, longN, stopped, finished}
 use Rattle.measures.proofs.scan.runs_into.Statement.{statement}
 use Rattle.measures.proofs.scan.runs_into.Tie as tie
 
-abbrev Inv-loop2 : tie.InvT-loop2
-Inv-loop2 m cs₀ ns₀ table c₀ n₀ k₀ i₀ j stop cs ns c n k i = Onward m cs₀ ns₀ c₀ n₀ k₀ i₀ cs ns c n k i × (i₀ ≤ i) × (stop ≤ length m)
-
-abbrev μ-loop2 : tie.MeasureT-loop2
-μ-loop2 m cs₀ ns₀ table c₀ n₀ k₀ i₀ j stop cs ns c n k i = length m - i
-
+-- the invariant speaks of what the slices hold where the loop begins, and not where the function does: so it says that what is so there stays so
 abbrev Inv-loop : tie.InvT-loop
-Inv-loop m cs₀ ns₀ table c₀ n₀ k₀ i₀ cs ns c n k i = Onward m cs₀ ns₀ c₀ n₀ k₀ i₀ cs ns c n k i
+Inv-loop m cs₀ ns₀ table most c p₀ i₀ cs ns p i =
+    (old new : List ℕ) → Going m old new cs₀ ns₀ most (p₀ .class) (p₀ .length) (p₀ .place) i₀ → Going m old new cs ns most (p .class) (p .length) (p .place) i
 
 abbrev μ-loop : tie.MeasureT-loop
-μ-loop m cs₀ ns₀ table c₀ n₀ k₀ i₀ cs ns c n k i = length m - i
+μ-loop m cs₀ ns₀ table most c p₀ i₀ cs ns p i = length m - i
 
--- the outer loop's head, over what the function's entry had in the slices
-going : (c : tie.At-loop Inv-loop2 μ-loop2 Inv-loop μ-loop) →
+-- the loop's head, over what the function's entry had in the slices
+going : (c : tie.At-loop Inv-loop μ-loop) →
     let s = c .before .before .before .before .before .before .before .args in
     let l = c .loop in
-    Going (s .m .now) (s .cs .now) (s .ns .now) (l .cs) (l .ns) (l .c) (l .n) (l .k) (l .i)
+    Going (s .m .now) (s .cs .now) (s .ns .now) (l .cs) (l .ns) (s .most) (l .p .class) (l .p .length) (l .p .place) (l .i)
 going c =
     let s = c .before .before .before .before .before .before .before in
     c .loop .inv (s .args .cs .now) (s .args .ns .now)
-    (rw (c .before .class-at .ensures) (starts (s .args .m .now) (s .args .cs .now) (s .args .ns .now) (omega arith) (s .pre .roomC) (s .pre .roomN)))
+    (rw (c .before .class-at .ensures) (starts (s .args .m .now) (s .args .cs .now) (s .args .ns .now) (s .args .most) (omega arith) (s .pre .roomC) (s .pre .roomN)))
 
 -- over measures of the pending class
-on : (c : tie.After-run-on Inv-loop2 μ-loop2 Inv-loop μ-loop) (old new : List ℕ) →
-    let m = c .before .before .before .before .before .before .before .before .before .args .m .now in
-    let l = c .before .before .loop in
-    let n = l .n + (c .run-on .result - l .i) in
-    Going m old new (l .cs) (l .ns) (l .c) (l .n) (l .k) (l .i) → Going m old new (l .cs) (set (l .ns) (l .k) n) (l .c) n (l .k) (c .run-on .result)
+on : (c : tie.After-run-on Inv-loop μ-loop) (old new : List ℕ) →
+    let s = c .before .before .before .before .before .before .before .before .before .before .args in
+    let l = c .before .before .before .loop in
+    let n = l .p .length + (c .run-on .result - l .i) in
+    Going (s .m .now) old new (l .cs) (l .ns) (s .most) (l .p .class) (l .p .length) (l .p .place) (l .i)
+    → Going (s .m .now) old new (l .cs) (set (l .ns) (l .p .place) n) (s .most) (l .p .class) n (l .p .place) (c .run-on .result)
 on c old new g = skipped g (c .run-on .ensures)
 
--- the inner loop's head
-going2 : (c : tie.At-loop2 Inv-loop2 μ-loop2 Inv-loop μ-loop) →
-    let s = c .before .before .before .before .before .before .before .before .before .before .before .args in
-    let l = c .loop2 in
-    Going (s .m .now) (s .cs .now) (s .ns .now) (l .cs) (l .ns) (l .c) (l .n) (l .k) (l .i)
-going2 c = c .loop2 .inv .0 _ _ (on (c .before .before) _ _ (going (c .before .before .before .before)))
+-- .. then step by step
+ready : (c : tie.After-run-on Inv-loop μ-loop) (count : ℕ) →
+    let s = c .before .before .before .before .before .before .before .before .before .before .args in
+    let l = c .before .before .before .loop in
+    let n = l .p .length + (c .run-on .result - l .i) in
+    c .run-on .result + count ≤ length (s .m .now)
+    → count ≤ 16
+    → Steps (s .m .now) (c .run-on .result) count (l .cs) (set (l .ns) (l .p .place) n) (s .table .now) (record { class = l .p .class; length = n; place = l .p .place })
+ready c count h b =
+    let s = c .before .before .before .before .before .before .before .before .before .before in
+    record {
+      few = s .pre .few;
+      right = s .pre .right;
+      within = h;
+      most = s .args .most;
+      low = omega (arith, c .before .if2 .left);
+      old = s .args .cs .now;
+      new = s .args .ns .now;
+      going = on c _ _ (going (c .before .before .before));
+    }
 
--- one more measure
-step : (c : tie.Joined2 Inv-loop2 μ-loop2 Inv-loop μ-loop) (old new : List ℕ) →
-    let m = c .before .before .before .before .before .before .before .before .before .before .before .before .before .before .before .args .m .now in
-    let l = c .before .before .before .before .loop2 in
-    let d = c .before .class-at2 .result in
-    Going m old new (l .cs) (l .ns) (l .c) (l .n) (l .k) (l .i) → Going m old new (set (l .cs) (c .if2 .k) d) (set (l .ns) (c .if2 .k) (c .if2 .n)) d (c .if2 .n) (c .if2 .k) (l .i + 1)
-step c old new g =
-    let d = c .before .class-at2 .ensures in
-    ⊎-elim
-    (λ w. rw (w .1, w .2, d) (other g (omega arith) (λ q. w .0 .taken (d ∙ q))))
-    (λ w. rw (w .1, w .2, d) (same g (omega arith) (sym d ∙ w .0 .left)))
-    (c .if2 .came)
+returns : tie.Need-returns Inv-loop μ-loop
+returns c = let s = c .before .before .before .before in empty (s .args .m .now) (s .args .most) _ _ (c .if1 .taken)
 
--- .. has its place
-kept : (c : tie.Joined2 Inv-loop2 μ-loop2 Inv-loop μ-loop) →
-    let l = c .before .before .before .before .loop2 in
-    (c .if2 .k < length (l .cs)) × (c .if2 .k < length (l .ns))
-kept c = simp length-set at (places (step c _ _ (going2 (c .before .before .before .before))))
-
-returns : tie.Need-returns Inv-loop2 μ-loop2 Inv-loop μ-loop
-returns c = empty (c .before .before .before .before .args .m .now) _ _ (c .if1 .taken)
-
-shared-slice-read-class-at : tie.Need-shared-slice-read-class-at Inv-loop2 μ-loop2 Inv-loop μ-loop
+shared-slice-read-class-at : tie.Need-shared-slice-read-class-at Inv-loop μ-loop
 shared-slice-read-class-at c = search needs
 
-class-at-requires : tie.Need-class-at-requires Inv-loop2 μ-loop2 Inv-loop μ-loop
+class-at-requires : tie.Need-class-at-requires Inv-loop μ-loop
 class-at-requires c κs = search needs
 
-slice-write-cs : tie.Need-slice-write-cs Inv-loop2 μ-loop2 Inv-loop μ-loop
+slice-write-cs : tie.Need-slice-write-cs Inv-loop μ-loop
 slice-write-cs c =
     let s = c .before .before .before .before .before .before in
-    omega (arith, room (s .args .m .now) (s .args .cs .now) (s .args .ns .now) (omega arith) (s .pre .roomC) (s .pre .roomN))
+    room (s .args .m .now) (s .args .cs .now) (s .args .ns .now) (s .args .most) (omega arith) (s .args .cs .now) (s .pre .roomC)
 
-slice-write-ns : tie.Need-slice-write-ns Inv-loop2 μ-loop2 Inv-loop μ-loop
+slice-write-ns : tie.Need-slice-write-ns Inv-loop μ-loop
 slice-write-ns c =
     let s = c .before .before .before .before .before .before in
-    omega (arith, room (s .args .m .now) (s .args .cs .now) (s .args .ns .now) (omega arith) (s .pre .roomC) (s .pre .roomN))
+    room (s .args .m .now) (s .args .cs .now) (s .args .ns .now) (s .args .most) (omega arith) (s .args .ns .now) (s .pre .roomN)
 
-loop-holds : tie.Need-loop-holds Inv-loop2 μ-loop2 Inv-loop μ-loop
+loop-holds : tie.Need-loop-holds Inv-loop μ-loop
 loop-holds c = λ old new g. g
 
-run-on-requires : tie.Need-run-on-requires Inv-loop2 μ-loop2 Inv-loop μ-loop
-run-on-requires c κs = (omega arith, going (c .before) .small)
+cast-i : tie.Need-cast-i Inv-loop μ-loop
+cast-i c = let g = going (c .before .before .before) in omega (arith, g .sum)
 
-sub-n : tie.Need-sub-n Inv-loop2 μ-loop2 Inv-loop μ-loop
-sub-n c = omega (arith, c .run-on .ensures .onward)
+sub-i : tie.Need-sub-i Inv-loop μ-loop
+sub-i c = let g = going (c .before .before .before) in omega (arith, g .sum)
 
-cast-n : tie.Need-cast-n Inv-loop2 μ-loop2 Inv-loop μ-loop
-cast-n c = let g = going (c .before .before) in omega (arith, c .run-on .ensures .within)
+same-length : tie.Need-same-length Inv-loop μ-loop
+same-length c = longC (going (c .before .before .before))
 
-add-n : tie.Need-add-n Inv-loop2 μ-loop2 Inv-loop μ-loop
-add-n c = let g = going (c .before .before) in omega (arith, c .run-on .ensures .within)
+same-length-2 : tie.Need-same-length-2 Inv-loop μ-loop
+same-length-2 c = longN (going (c .before .before .before))
 
-mul-ns : tie.Need-mul-ns Inv-loop2 μ-loop2 Inv-loop μ-loop
-mul-ns c = let g = going (c .before .before) in omega (arith, c .run-on .ensures .within)
+returns-2 : tie.Need-returns-2 Inv-loop μ-loop
+returns-2 c = stopped (going (c .before .before .before)) (c .before .before .loop-test .taken) (c .before .if2 .taken)
 
-slice-write-ns-2 : tie.Need-slice-write-ns-2 Inv-loop2 μ-loop2 Inv-loop μ-loop
-slice-write-ns-2 c = places (going (c .before .before)) .1
+run-on-requires : tie.Need-run-on-requires Inv-loop μ-loop
+run-on-requires c κs = (omega arith, going (c .before .before) .small)
 
-block-end-requires : tie.Need-block-end-requires Inv-loop2 μ-loop2 Inv-loop μ-loop
-block-end-requires c κs = omega (arith, c .run-on .ensures .within)
+sub-p : tie.Need-sub-p Inv-loop μ-loop
+sub-p c = omega (arith, c .run-on .ensures .onward)
 
-loop2-holds : tie.Need-loop2-holds Inv-loop2 μ-loop2 Inv-loop μ-loop
-loop2-holds c = (λ old new g. g, omega arith, c .block-end .ensures .1)
+cast-p : tie.Need-cast-p Inv-loop μ-loop
+cast-p c = let g = going (c .before .before .before) in omega (arith, c .run-on .ensures .within)
 
-loop-less : tie.Need-loop-less Inv-loop2 μ-loop2 Inv-loop μ-loop
-loop-less c = omega (arith, c .before .before .block-end .ensures, c .before .before .before .run-on .ensures .onward)
+add-p : tie.Need-add-p Inv-loop μ-loop
+add-p c = let g = going (c .before .before .before .before) in omega (arith, g .sum, c .before .run-on .ensures .within)
 
-loop-again : tie.Need-loop-again Inv-loop2 μ-loop2 Inv-loop μ-loop
-loop-again c = λ old new g. c .before .loop2 .inv .0 old new (on (c .before .before .before) old new (c .before .before .before .before .before .loop .inv old new g))
+mul-ns : tie.Need-mul-ns Inv-loop μ-loop
+mul-ns c = let g = going (c .before .before .before .before) in omega (arith, g .few)
 
-mul-class-at : tie.Need-mul-class-at Inv-loop2 μ-loop2 Inv-loop μ-loop
-mul-class-at c = omega arith
+slice-write-ns-2 : tie.Need-slice-write-ns-2 Inv-loop μ-loop
+slice-write-ns-2 c = places (going (c .before .before .before .before)) .1
 
-shared-slice-read-class-at-2 : tie.Need-shared-slice-read-class-at-2 Inv-loop2 μ-loop2 Inv-loop μ-loop
-shared-slice-read-class-at-2 c = omega arith
+sub-if3 : tie.Need-sub-if3 Inv-loop μ-loop
+sub-if3 c = omega (arith, c .before .run-on .ensures .within)
 
-class-at-requires-2 : tie.Need-class-at-requires-2 Inv-loop2 μ-loop2 Inv-loop μ-loop
-class-at-requires-2 c κs = search needs
+steps-into-requires : tie.Need-steps-into-requires Inv-loop μ-loop
+steps-into-requires c κs = ready (c .before .before .before .before) 16 (omega arith) (omega arith)
 
-add-n-2 : tie.Need-add-n-2 Inv-loop2 μ-loop2 Inv-loop μ-loop
-add-n-2 c = let g = going2 (c .before .before .before) in omega arith
-
-add-k : tie.Need-add-k Inv-loop2 μ-loop2 Inv-loop μ-loop
-add-k c = let g = going2 (c .before .before .before .before) in omega arith
-
-slice-write-cs-2 : tie.Need-slice-write-cs-2 Inv-loop2 μ-loop2 Inv-loop μ-loop
-slice-write-cs-2 c = kept c .0
-
-mul-ns-2 : tie.Need-mul-ns-2 Inv-loop2 μ-loop2 Inv-loop μ-loop
-mul-ns-2 c = let g = step (c .before) _ _ (going2 (c .before .before .before .before .before)) in omega (arith, c .before .before .before .before .before .before .before .before .before .before .before .before .before .before .before .before .pre .few)
-
-slice-write-ns-3 : tie.Need-slice-write-ns-3 Inv-loop2 μ-loop2 Inv-loop μ-loop
-slice-write-ns-3 c = kept (c .before) .1
-
-add-i : tie.Need-add-i Inv-loop2 μ-loop2 Inv-loop μ-loop
+add-i : tie.Need-add-i Inv-loop μ-loop
 add-i c = omega arith
 
-loop2-less : tie.Need-loop2-less Inv-loop2 μ-loop2 Inv-loop μ-loop
-loop2-less c = omega arith
+loop-less : tie.Need-loop-less Inv-loop μ-loop
+loop-less c = omega (arith, c .before .before .before .before .before .before .before .before .before .run-on .ensures .onward)
 
-loop2-again : tie.Need-loop2-again Inv-loop2 μ-loop2 Inv-loop μ-loop
-loop2-again c = (λ old new g. step (c .before) old new (c .before .before .before .before .before .loop2 .inv .0 old new g), omega arith, omega arith)
+loop-again : tie.Need-loop-again Inv-loop μ-loop
+loop-again c =
+    let w = c .before .before .before .before in
+    let r = w .before .before .before .before .before in
+    λ old new g. w .steps-into .ensures _ old new (omega (arith, r .before .if2 .left)) (on r old new (r .before .before .before .loop .inv old new g))
 
-add-result : tie.Need-add-result Inv-loop2 μ-loop2 Inv-loop μ-loop
-add-result c = let g = going (c .before) in omega arith
+sub-steps-into : tie.Need-sub-steps-into Inv-loop μ-loop
+sub-steps-into c = omega arith
 
-same-length : tie.Need-same-length Inv-loop2 μ-loop2 Inv-loop μ-loop
-same-length c = longC (going (c .before))
+steps-into-requires-2 : tie.Need-steps-into-requires-2 Inv-loop μ-loop
+steps-into-requires-2 c κs = let r = c .before .before .before .before in ready r _ (omega (arith, r .run-on .ensures .within)) (omega arith)
 
-same-length-2 : tie.Need-same-length-2 Inv-loop2 μ-loop2 Inv-loop μ-loop
-same-length-2 c = longN (going (c .before))
+loop-less-2 : tie.Need-loop-less-2 Inv-loop μ-loop
+loop-less-2 c = omega arith
 
-returns-2 : tie.Need-returns-2 Inv-loop2 μ-loop2 Inv-loop μ-loop
-returns-2 c = finished (going (c .before)) (c .loop-test .left)
+loop-again-2 : tie.Need-loop-again-2 Inv-loop μ-loop
+loop-again-2 c =
+    let w = c .before .before .before .before in
+    let r = w .before .before .before .before .before in
+    let m = r .before .before .before .before .before .before .before .before .before .before .args .m .now in
+    let e : r .run-on .result + (length m - r .run-on .result) ≡ length m = omega (arith, r .run-on .ensures .within) in
+    λ old new g. rw e at (w .steps-into2 .ensures _ old new (omega (arith, r .before .if2 .left)) (on r old new (r .before .before .before .loop .inv old new g)))
+
+add-tokens : tie.Need-add-tokens Inv-loop μ-loop
+add-tokens c = let g = going (c .before .before) in omega arith
+
+same-length-3 : tie.Need-same-length-3 Inv-loop μ-loop
+same-length-3 c = longC (going (c .before .before))
+
+same-length-4 : tie.Need-same-length-4 Inv-loop μ-loop
+same-length-4 c = longN (going (c .before .before))
+
+returns-3 : tie.Need-returns-3 Inv-loop μ-loop
+returns-3 c = finished (going (c .before .before)) (c .before .loop-test .left)
 
 pub runs-into-spec : {M : Type 1} → statement M
 runs-into-spec =
     tie.close
     (tie.spec
-    Inv-loop2
-    μ-loop2
     Inv-loop
     μ-loop
     returns
@@ -179,28 +174,27 @@ runs-into-spec =
     slice-write-cs
     slice-write-ns
     loop-holds
-    run-on-requires
-    sub-n
-    cast-n
-    add-n
-    mul-ns
-    slice-write-ns-2
-    block-end-requires
-    loop2-holds
-    loop-less
-    loop-again
-    mul-class-at
-    shared-slice-read-class-at-2
-    class-at-requires-2
-    add-n-2
-    add-k
-    slice-write-cs-2
-    mul-ns-2
-    slice-write-ns-3
-    add-i
-    loop2-less
-    loop2-again
-    add-result
+    cast-i
+    sub-i
     same-length
     same-length-2
-    returns-2)
+    returns-2
+    run-on-requires
+    sub-p
+    cast-p
+    add-p
+    mul-ns
+    slice-write-ns-2
+    sub-if3
+    steps-into-requires
+    add-i
+    loop-less
+    loop-again
+    sub-steps-into
+    steps-into-requires-2
+    loop-less-2
+    loop-again-2
+    add-tokens
+    same-length-3
+    same-length-4
+    returns-3)

@@ -1,6 +1,7 @@
 -- `measures::scan::scan` meets its contract.
 -- Assumes nothing.
 use mathlib.Core.Path.{refl, sym, ap, _∙_}
+use mathlib.Core.Logic.{inl}
 use native.Mathlib.Omega.{arith}
 use lib.Seq.{length-take-le}
 use borrow.Author.Needs.{needs}
@@ -25,28 +26,28 @@ runs-into-requires c κs =
     let ts = part-runs (s .args .m .now) _ e in
     record {
       few = rw e (omega (arith, part-within (s .args .m .now), s .pre .few));
-      roomC = rw ts (s .pre .roomC);
-      roomN = rw ts (s .pre .roomN);
+      roomC = inl (rw ts (s .pre .roomC));
+      roomN = inl (rw ts (s .pre .roomN));
       right = refl;
     }
 
 slice-reshare-prefix-add-up : tie.Need-slice-reshare-prefix-add-up
-slice-reshare-prefix-add-up c = withinC (c .before .before .before .before .runs-into .ensures)
+slice-reshare-prefix-add-up c = withinC (c .before .before .before .before .runs-into .ensures .all (omega arith))
 
 slice-aggregate-add-up : tie.Need-slice-aggregate-add-up
-slice-aggregate-add-up c = sym (length-take-le _ _ (withinC (c .before .before .before .before .before .runs-into .ensures)))
+slice-aggregate-add-up c = sym (length-take-le _ _ (withinC (c .before .before .before .before .before .runs-into .ensures .all (omega arith))))
 
 slice-reshare-prefix-add-up-2 : tie.Need-slice-reshare-prefix-add-up-2
-slice-reshare-prefix-add-up-2 c = withinN (c .before .before .before .before .before .runs-into .ensures)
+slice-reshare-prefix-add-up-2 c = withinN (c .before .before .before .before .before .runs-into .ensures .all (omega arith))
 
 slice-aggregate-add-up-2 : tie.Need-slice-aggregate-add-up-2
-slice-aggregate-add-up-2 c = sym (length-take-le _ _ (withinN (c .before .before .before .before .before .before .runs-into .ensures)))
+slice-aggregate-add-up-2 c = sym (length-take-le _ _ (withinN (c .before .before .before .before .before .before .runs-into .ensures .all (omega arith))))
 
 add-up-requires : tie.Need-add-up-requires
 add-up-requires c κs =
     let s = c .before .before .before .before .before .before .before .before .before .before .before .before .before .before .before in
     let a = c .before .before .before .before .before .before .before .before .before .before .active-behind in
-    pairs (c .before .before .before .before .before .before .runs-into .ensures) (a .result .now) refl (rw (a .ensures) (omega (arith, part-within (s .args .m .now), s .pre .few)))
+    pairs (c .before .before .before .before .before .before .runs-into .ensures .all (omega arith)) (a .result .now) refl (rw (a .ensures) (omega (arith, part-within (s .args .m .now), s .pre .few)))
 
 counted-requires : tie.Need-counted-requires
 counted-requires c κs =
@@ -56,7 +57,7 @@ counted-requires c κs =
       few = s .pre .few;
       led = c .before .before .before .before .before .before .before .before .before .before .before .before .lead-in .ensures;
       active = a .ensures;
-      held = c .add-up .ensures ∙ ap sumsOf (back (c .before .before .before .before .before .before .before .runs-into .ensures) (a .result .now) refl ∙ part-runs (s .args .m .now) _ (a .ensures));
+      held = c .add-up .ensures ∙ ap sumsOf (back (c .before .before .before .before .before .before .before .runs-into .ensures .all (omega arith)) (a .result .now) refl ∙ part-runs (s .args .m .now) _ (a .ensures));
     }
 
 same-length : tie.Need-same-length
@@ -70,7 +71,7 @@ returns c =
     let s = c .before .before .before .before .before .before .before .before .before .before .before .before .before .before .before .before .before in
     record {
       counted = c .counted .ensures;
-      written = rw (part-runs (s .args .m .now) _ (c .before .before .before .before .before .before .before .before .before .before .before .before .active-behind .ensures)) at (c .before .before .before .before .before .before .before .before .runs-into .ensures);
+      written = rw (part-runs (s .args .m .now) _ (c .before .before .before .before .before .before .before .before .before .before .before .before .active-behind .ensures)) at (c .before .before .before .before .before .before .before .before .runs-into .ensures .all (omega arith));
     }
 
 pub scan-spec : {M : Type 1} → statement M

@@ -3,7 +3,7 @@
 use Prim.Native.Nat.{_+_, _-_, _≤_}
 use lib.ListN.{length, drop, drop-of-length-le}
 use Rattle.number.specs.Place.{Room}
-use Rattle.breakdown.proofs.Loop.{Going, starts, long, room, step, finished}
+use Rattle.breakdown.proofs.Reached.{Reached, starts, long, room-part, on, finished}
 use Rattle.sheet_lines.specs.Steps.{led}
 use Rattle.sheet_lines.proofs.Numbers.{number-chunk}
 use borrow.Author.Needs.{needs}
@@ -12,13 +12,13 @@ use Rattle.sheet_lines.proofs.put.put_numbers.Tie as tie
 use Rattle.sheet_lines.proofs.put.put_spaced.Reads as put-spaced-reads
 
 abbrev Inv-loop : tie.InvT-loop
-Inv-loop out₀ at numbers place₀ i₀ out place i = (i ≤ length numbers) × Room out₀ at (led numbers) × Going (λ j. led (drop j numbers)) out₀ at out place i
+Inv-loop out₀ at numbers place₀ i₀ out place i = (i ≤ length numbers) × Room out₀ at (led numbers) × Reached out₀ at (led numbers) (led (drop i numbers)) out place
 
 abbrev μ-loop : tie.MeasureT-loop
 μ-loop out₀ at numbers place₀ i₀ out place i = length numbers - i
 
 loop-holds : tie.Need-loop-holds Inv-loop μ-loop
-loop-holds c = (search needs, c .before .before .pre, starts _ _ _)
+loop-holds c = (search needs, c .before .before .pre, starts)
 
 mul-put-spaced : tie.Need-mul-put-spaced Inv-loop μ-loop
 mul-put-spaced c = search needs
@@ -29,7 +29,7 @@ shared-slice-read-put-spaced c = search needs
 put-spaced-requires : tie.Need-put-spaced-requires Inv-loop μ-loop
 put-spaced-requires c κs =
     let l = c .before .before .before .loop in
-    room _ _ _ (l .inv .2) _ (l .i + 1) (number-chunk _ (l .i) (c .before .before .loop-test .taken)) (l .inv .1)
+    room-part (l .inv .2) _ _ (number-chunk _ (l .i) (c .before .before .loop-test .taken)) (l .inv .1)
 
 add-i : tie.Need-add-i Inv-loop μ-loop
 add-i c = search needs
@@ -40,13 +40,13 @@ loop-less c = search needs
 loop-again : tie.Need-loop-again Inv-loop μ-loop
 loop-again c =
     let l = c .before .before .before .before .before .before .loop in
-    (search needs, l .inv .1, step _ _ _ (l .inv .2) _ (l .i + 1) (number-chunk _ (l .i) (c .before .before .before .before .before .loop-test .taken)) (c .before .before .put-spaced .ensures))
+    (search needs, l .inv .1, on (l .inv .2) _ _ (number-chunk _ (l .i) (c .before .before .before .before .before .loop-test .taken)) (c .before .before .put-spaced .ensures))
 
 same-length : tie.Need-same-length Inv-loop μ-loop
-same-length c = long _ _ _ (c .before .loop .inv .2)
+same-length c = long (c .before .loop .inv .2)
 
 returns : tie.Need-returns Inv-loop μ-loop
-returns c = finished _ _ _ (c .before .loop .inv .2) (rw (drop-of-length-le _ (c .loop-test .left)))
+returns c = finished (c .before .loop .inv .2) (rw (drop-of-length-le _ (c .loop-test .left)))
 
 pub put-numbers-spec : {M : Type 1} → statement M
 put-numbers-spec =

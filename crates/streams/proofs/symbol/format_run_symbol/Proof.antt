@@ -21,6 +21,9 @@ returns-2 c =
     let a = c .before .before .before .before .before .args in
     symbol-4 (a .class) _ (a .length) (a .star) _ (c .before .before .before .class-number .ensures) _ (c .before .run-length .ensures .number) (c .before .before .if1 .left) (c .if2 .taken)
 
+slice-aggregate-put-run : tie.Need-slice-aggregate-put-run
+slice-aggregate-put-run c = search needs
+
 put-run-requires : tie.Need-put-run-requires
 put-run-requires c κs = search needs
 
@@ -29,8 +32,8 @@ same-length c = search needs
 
 returns-3 : tie.Need-returns-3
 returns-3 c =
-    let a = c .before .before .before .before .before .before .before .before .before .args in
-    symbol-0 (a .class) _ (a .length) (a .star) _ (c .before .before .before .before .before .before .before .class-number .ensures) _ (c .before .before .before .before .before .run-length .ensures .number) (c .before .before .before .before .before .before .if1 .left) (c .before .before .before .before .if2 .left) (c .before .before .put-run .ensures)
+    let a = c .before .before .before .before .before .before .before .before .before .before .before .args in
+    symbol-0 (a .class) _ (a .length) (a .star) _ (c .before .before .before .before .before .before .before .before .before .class-number .ensures) _ (c .before .before .before .before .before .before .before .run-length .ensures .number) (c .before .before .before .before .before .before .before .before .if1 .left) (c .before .before .before .before .before .before .if2 .left) (c .before .before .before .put-run .ensures)
 
 pub format-run-symbol-spec : {M : Type 1} → statement M
 format-run-symbol-spec =
@@ -40,6 +43,7 @@ format-run-symbol-spec =
     returns
     run-length-requires
     returns-2
+    slice-aggregate-put-run
     put-run-requires
     same-length
     returns-3)

@@ -1,0 +1,528 @@
+-- A part of an SN text, run by run or, where no runs join, token by token.
+-- Assumes nothing.
+use Prim.Native.Nat.{ℕ, zero, suc, _+_, _*_, _≤_, _<_}
+use mathlib.Core.Path.{_≡_, refl, sym, ap, _∙_}
+use mathlib.Core.Bool.{Bool, true, false, _&&_, and-false, and-eq-true-iff}
+use mathlib.Core.Logic.{_≢_, inl, inr}
+use mathlib.Core.List.{List, [], _∷_, _++_, map, map-append, append-assoc, append-nil}
+use native.Mathlib.Nat.{suc-ne-zero}
+use native.Mathlib.Numerals.{add-one}
+use native.Mathlib.Omega.{arith}
+use lib.Dec.{eqb, ltb, leb}
+use lib.ListN.{length, take, drop, getD, set, length-append, length-map, length-set}
+use borrow.Author.Tests.{ltb-true, leb-true, leb-false, lt-ltb, le-ltb}
+use Rattle.number.specs.Digits.{digits}
+use Rattle.number.specs.Place.{Room, Wrote}
+use Rattle.number.specs.Pushed.{DigitCount}
+use Rattle.number.proofs.Place.{still, room-first, wrote-length, wrote}
+use Rattle.number.proofs.Split.{split}
+use Rattle.rules.specs.Bytes.{bytes}
+use Rattle.rules.specs.Chart.{Token, token, class, len}
+use Rattle.rules.specs.Reduced.{Item, run, item, signOf, joins, joinFrom, short, absorb, dropOnes}
+use Rattle.rules.specs.Texts.{word, strung}
+use Rattle.rules.proofs.Steps.{drop-run, simple-run, short-long}
+use Rattle.measures.specs.Scan.{paired}
+use Rattle.breakdown.specs.Buffer.{Flushed, Grown}
+use Rattle.breakdown.specs.Put.{byteText, Measured}
+use Rattle.breakdown.specs.Behind.{Behind, firstClass}
+use Rattle.breakdown.specs.Sn.{breakItem, breakTokens, shown}
+use Rattle.breakdown.specs.Parts.{TokensBehind, PartRoom, PartWritten, PartMeasured, OpenRun, spaced, snOf, snPart, snOn}
+use Rattle.breakdown.specs.SnParts.{ended, longBreak, joinClass, side, TokenAt, RunAt, WithBreak}
+use Rattle.breakdown.proofs.Bytes.{sign-item, sign-one}
+use Rattle.breakdown.proofs.Reading.{none-left, slices-next, run-behind}
+use Rattle.breakdown.proofs.Groups.{drop-append, after-run, after-join, after-apart, break-tokens, one-shows, short-shows, long-shows}
+use Rattle.breakdown.proofs.Growing.{grown, dropped, stored}
+use Rattle.breakdown.proofs.Buffered.{Buffered, buffered-starts, buffered-grows, buffered-room, buffered-flushed, buffered-ends}
+
+-- ---- a run first, so something is shown
+
+module _ (k : ℕ) where
+  run-absorbed : (t : Token) (ts : List Token) → class t ≢ 0 → firstClass (absorb k (t ∷ ts)) ≢ 0
+  run-absorbed t [] r = r
+  run-absorbed t (u ∷ ts) r = split (short k u) (λ e. rw e r) (λ e. rw e r)
+
+  run-joined : (t : Token) (ts : List Token) → class t ≢ 0 → firstClass (absorb k (joinFrom k t ts)) ≢ 0
+  run-joined t [] r = r
+  run-joined t (u ∷ []) r = run-absorbed t (u ∷ []) r
+  run-joined t (u ∷ v ∷ ts) r =
+      split (joins k t u v)
+      (λ e. rw e (run-joined (token (class t) (len t + len u + len v) true) ts r))
+      (λ e. rw e (run-absorbed t (joinFrom k u (v ∷ ts)) r))
+
+some-left : (ts : List Token) → firstClass ts ≢ 0 → 0 < length (dropOnes ts)
+some-left [] r = absurd (r refl)
+some-left (t ∷ ts) r = rw (drop-run t ts r) (omega arith)
+
+pub some-shown : (k : ℕ) (t : Token) (ts : List Token) → class t ≢ 0 → 0 < length (shown k (t ∷ ts))
+some-shown k t ts r = some-left (absorb k (joinFrom k t ts)) (run-joined k t ts r)
+
+-- ---- items before others
+
+spaced-more : (xs ys : List Item) → 0 < length ys → strung (λ y. bytes " " ++ word y) (xs ++ ys) ≡ bytes " " ++ spaced (xs ++ ys)
+spaced-more [] [] h = absurd (omega arith)
+spaced-more [] (y ∷ ys) h = refl
+spaced-more (x ∷ xs) ys h = refl
+
+spaced-before : (xs ys : List Item) → 0 < length ys → spaced (xs ++ ys) ≡ strung (λ y. word y ++ bytes " ") xs ++ spaced ys
+spaced-before [] ys h = refl
+spaced-before (x ∷ xs) ys h =
+    rw (spaced-more xs ys h, spaced-before xs ys h) (simp append-assoc)
+
+pub shown-before : (k : ℕ) (ts us : List Token) → 0 < length us
+    → spaced (map (item (breakItem k)) (ts ++ us)) ≡ ended k ts ++ spaced (map (item (breakItem k)) us)
+shown-before k ts us h = rw map-append (spaced-before (map (item (breakItem k)) ts) (map (item (breakItem k)) us) (rw length-map h))
+
+-- ---- a run of class d joins one of class c over a break of g
+
+pub between : (m g k : ℕ) → (ltb m g && leb g k) ≡ true → (m < g) × (g ≤ k)
+between m g k e = let both = and-eq-true-iff _ _ .0 e in (ltb-true m g (both .0), leb-true g k (both .1))
+
+joins-over : (k c g : ℕ) {d : ℕ} → d ≢ 0 → d ≡ joinClass k c g → (1 ≤ g) × (g ≤ k) × (d ≡ c)
+joins-over k c g r e =
+    split (ltb 0 g && leb g k)
+    (λ l. let near = between 0 g k l in (near .0, near .1, rw l at e))
+    (λ l. absurd (r (rw l at e)))
+
+-- ---- an open run t, a break of g (0: none), and a run u
+
+module _ (k : ℕ) (t : Token) (rt : class t ≢ 0) (u : Token) (us : List Token) where
+  pub joined-text : (g : ℕ) → class u ≢ 0 → class u ≡ joinClass k (class t) g
+      → snOf k (t ∷ (breakTokens g ++ (u ∷ us))) ≡ snOf k (token (class t) (len t + (g + len u)) true ∷ us)
+  joined-text g r e =
+      let near = joins-over k (class t) g r e in
+      let sum : len t + (g + len u) ≡ len t + g + len u = omega arith in
+      rw (sum, break-tokens g (near .0))
+      (ap (λ ts. spaced (map (item (breakItem k)) ts)) (after-join k t rt (token 0 g false) u us refl (near .1) (near .2)))
+
+  apart-shown : (g : ℕ) → class u ≢ 0 → class u ≢ joinClass k (class t) g
+      → shown k (t ∷ (breakTokens g ++ (u ∷ us))) ≡ shown k (t ∷ breakTokens g) ++ shown k (u ∷ us)
+  apart-shown zero r d = after-run k t rt (u ∷ us) r ∙ rw (drop-run t [] rt)
+  apart-shown (suc g) r d =
+      after-apart k t rt (token 0 (suc g) false) (u ∷ us) r
+      (split (leb (suc g) k) (λ l. inr (rw (lt-ltb 0 (suc g) (omega arith), l) at d)) (λ l. inl (leb-false (suc g) k l)))
+
+  pub apart-text : (g : ℕ) → class u ≢ 0 → class u ≢ joinClass k (class t) g
+      → snOf k (t ∷ (breakTokens g ++ (u ∷ us))) ≡ ended k (shown k (t ∷ breakTokens g)) ++ snOf k (u ∷ us)
+  apart-text g r d = rw (apart-shown g r d) (shown-before k (shown k (t ∷ breakTokens g)) (shown k (u ∷ us)) (some-shown k u us r))
+
+-- ---- the next run of two slices, and the break before it
+
+module _ {cs ns : List ℕ} {i : ℕ} (a : TokenAt cs ns i) where
+  first : drop i (paired cs ns) ≡ token (getD cs i 0) (getD ns i 0) false ∷ drop (suc i) (paired cs ns)
+  first = slices-next cs ns i (a .long) (a .inside)
+
+  pub run-next : getD cs i 0 ≢ 0 → RunAt cs ns i 0 (getD cs i 0) (getD ns i 0) (i + 1)
+  run-next r =
+      rw add-one
+      (record {
+        rest = first;
+        run = r;
+        behind = rw first at (a .behind) .1;
+        on = omega arith;
+        within = a .inside;
+      })
+
+  module _ (b : getD cs i 0 ≡ 0) where
+    left-behind : (1 ≤ getD ns i 0) × Behind 0 (drop (suc i) (paired cs ns))
+    left-behind = let l = rw (first, b) at (a .behind) in (l .0 refl .1, l .1)
+
+    pub run-inside : i + 1 < length cs
+    run-inside =
+        split (leb (length cs) (suc i))
+        (λ e. absurd (rw (none-left cs ns (suc i) (leb-true _ _ e)) at (left-behind .1) refl))
+        (λ e. rw add-one (leb-false _ _ e))
+
+    second : drop (suc i) (paired cs ns) ≡ token (getD cs (suc i) 0) (getD ns (suc i) 0) false ∷ drop (suc (suc i)) (paired cs ns)
+    second = slices-next cs ns (suc i) (a .long) (rw add-one at run-inside)
+
+    pub break-next : RunAt cs ns i (getD ns i 0) (getD cs (i + 1) 0) (getD ns (i + 1) 0) (i + 1 + 1)
+    break-next =
+        rw (add-one, add-one)
+        (record {
+          rest = rw (break-tokens (getD ns i 0) (left-behind .0)) (rw b at first ∙ ap {B = List Token} (λ ts. token 0 (getD ns i 0) false ∷ ts) second);
+          run = λ e. (rw second at (left-behind .1)) .0 e .0 refl;
+          behind = rw second at (left-behind .1) .1;
+          on = rw (break-tokens (getD ns i 0) (left-behind .0)) (omega arith);
+          within = rw add-one at run-inside;
+        })
+
+-- ---- a part, run by run
+
+-- the text of an open run t and of the tokens behind it: `done`, the text of a run u that is open, and that of the tokens from place i on
+pub record Opened (k : ℕ) (t : Token) (cs ns done : List ℕ) (u : Token) (i : ℕ) : Type 0 where
+  pub whole : (more : List Token) → snPart k t cs ns more ≡ done ++ snOf k (u ∷ (drop i (paired cs ns) ++ more))
+  pub run : class u ≢ 0
+  pub behind : Behind (class u) (drop i (paired cs ns))
+  pub small : len u ≤ len t + 4294967296 * i
+  pub within : i ≤ length cs
+
+pub opened-starts : (k : ℕ) (t : Token) {cs ns : List ℕ} → TokensBehind (class t) cs ns → Opened k t cs ns [] t 0
+opened-starts k t h = record { whole = λ more. refl; run = h .run; behind = h .behind; small = omega arith; within = omega arith }
+
+module _ {k : ℕ} {t : Token} {cs ns done : List ℕ} {u : Token} {i : ℕ} (o : Opened k t cs ns done u i) where
+  pub opened-at : length cs ≡ length ns → i < length cs → TokenAt cs ns i
+  opened-at l h = record { long = l; inside = h; earlier = class u; behind = o .behind }
+
+  pub opened-room : {out : List ℕ} {at : ℕ} → PartRoom (snPart k t cs ns) out at → Room out at done
+  opened-room r = room-first done _ (rw (o .whole (r .more)) at (r .room))
+
+  pub opened-ends : length cs ≤ i → OpenRun t cs u
+  opened-ends h = record { run = o .run; small = omega (arith, o .small, o .within) }
+
+  pub opened-whole : length cs ≤ i → (more : List Token) → snPart k t cs ns more ≡ done ++ snOn k u more
+  opened-whole h more = o .whole more ∙ rw (none-left cs ns i h)
+
+  module _ {g d n next : ℕ} (a : RunAt cs ns i g d n next) where
+    on-text : (more : List Token)
+        → snPart k t cs ns more ≡ done ++ snOf k (u ∷ (breakTokens g ++ (token d n false ∷ (drop next (paired cs ns) ++ more))))
+    on-text more = o .whole more ∙ rw (a .rest, append-assoc)
+
+    pub opened-joins : d ≡ joinClass k (class u) g → g < 4294967296 → n < 4294967296 → Opened k t cs ns done (token (class u) (len u + (g + n)) true) next
+    opened-joins e x y =
+        let near = joins-over k (class u) g (a .run) e in
+        record {
+          whole = λ more. on-text more ∙ rw (joined-text k u (o .run) (token d n false) (drop next (paired cs ns) ++ more) g (a .run) e);
+          run = o .run;
+          behind = rw (near .2) at (a .behind);
+          small = omega (arith, o .small, rw (break-tokens g (near .0)) at (a .on));
+          within = a .within;
+        }
+
+    pub opened-next : d ≢ joinClass k (class u) g → n < 4294967296
+        → Opened k t cs ns (done ++ ended k (shown k (u ∷ breakTokens g))) (token d n false) next
+    opened-next e x =
+        record {
+          whole = λ more.
+              on-text more
+              ∙ rw (apart-text k u (o .run) (token d n false) (drop next (paired cs ns) ++ more) g (a .run) e)
+              (sym (append-assoc done (ended k (shown k (u ∷ breakTokens g))) (snOf k (token d n false ∷ (drop next (paired cs ns) ++ more)))));
+          run = a .run;
+          behind = a .behind;
+          small = omega (arith, a .on);
+          within = a .within;
+        }
+
+-- ---- a run and a break over which it does not join, in the buffer
+
+run-item : (f : ℕ → Item) (c n : ℕ) (s : Bool) → c ≢ 0 → item f (token c n s) ≡ run c n s
+run-item f zero n s r = absurd (r refl)
+run-item f (suc c) n s r = refl
+
+sign-stored : (most n b : ℕ) → byteText b ≡ word (signOf most n) → word (signOf most n) ≡ b ∷ []
+sign-stored most n zero h = absurd (omega (arith, sign-one most n, ap length h))
+sign-stored most n (suc b) h = sym h
+
+module _ (k c n : ℕ) (s : Bool) (g : ℕ) (r : c ≢ 0) where
+  pub alone-text : ended k (token c n s ∷ []) ≡ word (run c n s) ++ (32 ∷ [])
+  alone-text = rw (run-item (breakItem k) c n s r, append-nil)
+
+  pub near-shown : (ltb 1 g && leb g k) ≡ true → shown k (token c n s ∷ breakTokens g) ≡ token c (n + g) true ∷ longBreak k g
+  near-shown e =
+      let near = between 1 g k e in
+      rw (lt-ltb 1 g (near .0), le-ltb k g (near .1), break-tokens g (omega (arith, near .0))) (short-shows k c n s g r (near .0) (near .1))
+
+  one-shown : (g : ℕ) → g ≤ 1 → shown k (token c n s ∷ breakTokens g) ≡ token c n s ∷ []
+  one-shown zero h = drop-run (token c n s) [] r
+  one-shown (suc g) h = one-shows k c n s (suc g) r (omega arith)
+
+  pub else-shown : (ltb 1 g && leb g k) ≡ false → shown k (token c n s ∷ breakTokens g) ≡ token c n s ∷ longBreak k g
+  else-shown e =
+      split (leb g 1)
+      (λ z. rw (le-ltb 1 g (leb-true g 1 z)) (one-shown g (leb-true g 1 z)))
+      (λ z.
+      let h = leb-false g 1 z in
+      let l : k < g = leb-false g k (rw (lt-ltb 1 g h) at e) in
+      let b = break-tokens g (omega arith) in
+      rw (lt-ltb 1 g h, lt-ltb k g l, b) (rw b at (long-shows k c n s g r h l)))
+
+-- a space, the byte b and a space behind a text: all three are kept, or the first
+abbrev with-three : List ℕ → ℕ → ℕ → List ℕ
+with-three l a b = set (set (set l a 32) (a + 1) b) (a + 1 + 1) 32
+
+module _ {old mid : List ℕ} {p a : ℕ} (xs : List ℕ) (h : Grown old mid p xs a) (f : a + 3 ≤ length mid) (b : ℕ) where
+  with-space : Grown old (set mid a 32) p (xs ++ (32 ∷ [])) (a + 1)
+  with-space = grown xs (32 ∷ []) h (stored 32 (omega arith))
+
+  two-more : Grown (set mid a 32) (with-three mid a b) (a + 1) (b ∷ 32 ∷ []) (a + 1 + 1 + 1)
+  two-more =
+      let l = length-set mid a 32 in
+      grown (b ∷ []) (32 ∷ []) (stored b (omega (arith, l))) (stored 32 (omega (arith, l, length-set (set mid a 32) (a + 1) b)))
+
+  all-kept : Grown old (with-three mid a b) p (xs ++ (32 ∷ b ∷ 32 ∷ [])) (a + 1 + 1 + 1)
+  all-kept = rw append-assoc at (grown (xs ++ (32 ∷ [])) (b ∷ 32 ∷ []) with-space two-more)
+
+  first-kept : Grown old (with-three mid a b) p (xs ++ (32 ∷ [])) (a + 1)
+  first-kept =
+      rw append-nil at (grown (xs ++ (32 ∷ [])) [] with-space (dropped (b ∷ 32 ∷ []) (omega (arith, length-set mid a 32)) two-more))
+
+-- a run and a long break, in the buffer
+module _ {old mid : List ℕ} {p a : ℕ} (k c n : ℕ) (s : Bool) (g b : ℕ) (r : c ≢ 0) (f : a + 3 ≤ length mid) (h : Grown old mid p (word (run c n s)) a) where
+  pub group-short : g ≤ k → Grown old (with-three mid a b) p (ended k (token c n s ∷ longBreak k g)) (a + 1)
+  group-short l = rw (le-ltb k g l, and-false (ltb 1 g), alone-text k c n s g r) (first-kept (word (run c n s)) h f b)
+
+  pub group-long : 1 ≤ k → k < g → byteText b ≡ word (signOf 32 g) → Grown old (with-three mid a b) p (ended k (token c n s ∷ longBreak k g)) (a + 1 + 1 + 1)
+  group-long o l e =
+      rw (lt-ltb 1 g (omega arith), lt-ltb k g l, run-item (breakItem k) c n s r, sign-item k g (λ e. omega arith), sign-stored 32 g b e)
+      (rw append-assoc (all-kept (word (run c n s)) h f b))
+
+-- ---- a token in the buffer
+
+pub token-text : (c n : ℕ) → (eqb c 0 && eqb n 1) ≡ false
+    → ended 0 (dropOnes (token c n false ∷ [])) ≡ side 40 c ++ (digits n ++ (side 41 c ++ (32 ∷ [])))
+token-text zero n e = rw e (simp (append-assoc, append-nil))
+token-text (suc c) n e = rw e (simp (append-assoc, append-nil))
+
+pub token-none : (c n : ℕ) → (eqb c 0 && eqb n 1) ≡ true → ended 0 (dropOnes (token c n false ∷ [])) ≡ []
+token-none c n e = rw e
+
+-- no tokens
+pub none-written : (k : ℕ) (t : Token) (cs ns : List ℕ) {old : List ℕ} {at : ℕ} → TokensBehind (class t) cs ns → length cs ≡ 0
+    → PartWritten (snPart k t cs ns) (snOn k t) old old at at × OpenRun t cs t
+none-written k t cs ns b h =
+    let o = opened-starts k t b in
+    (record { done = []; whole = opened-whole o (omega arith); wrote = still }, opened-ends o (omega arith))
+
+-- ---- a part is written, run by run
+
+-- what is done of it stands in the lent slice, but for the buffer's first p bytes
+pub record Writing (k : ℕ) (t : Token) (cs ns old : List ℕ) (at : ℕ) (buf out : List ℕ) (u : Token) (place p i : ℕ) : Type 0 where
+  pub done : List ℕ
+  pub opened : Opened k t cs ns done u i
+  pub buffered : Buffered old out at place buf p done
+  pub few : p ≤ 448
+
+pub writing-starts : (k : ℕ) (t : Token) {cs ns : List ℕ} (old : List ℕ) (at : ℕ) (buf : List ℕ)
+    → TokensBehind (class t) cs ns → Writing k t cs ns old at buf old t at 0 0
+writing-starts k t old at buf h =
+    record { done = []; opened = opened-starts k t h; buffered = buffered-starts buf 0; few = omega arith }
+
+module _ {k : ℕ} {t : Token} {cs ns old : List ℕ} {at : ℕ} {buf out : List ℕ} {u : Token} {place p i : ℕ}
+    (w : Writing k t cs ns old at buf out u place p i) where
+  pub writing-room : PartRoom (snPart k t cs ns) old at → Room out place (take p buf)
+  writing-room r = buffered-room (w .buffered) (opened-room (w .opened) r)
+
+  pub writing-long : {new : List ℕ} {r : ℕ} → Wrote out new place (take p buf) r → length new ≡ length old
+  writing-long g = wrote-length (w .done) [] (buffered-ends (w .buffered) g)
+
+  pub writing-ends : {new : List ℕ} {r : ℕ} → length cs ≤ i → Wrote out new place (take p buf) r
+      → PartWritten (snPart k t cs ns) (snOn k u) old new at r × OpenRun t cs u
+  writing-ends h g = (
+    record { done = w .done; whole = opened-whole (w .opened) h; wrote = buffered-ends (w .buffered) g },
+    opened-ends (w .opened) h,
+  )
+
+  module _ {g d n next : ℕ} (a : RunAt cs ns i g d n next) where
+    pub writing-joins : d ≡ joinClass k (class u) g → g < 4294967296 → n < 4294967296
+        → Writing k t cs ns old at buf out (token (class u) (len u + (g + n)) true) place p next
+    writing-joins e x y = record { done = w .done; opened = opened-joins (w .opened) a e x y; buffered = w .buffered; few = w .few }
+
+    module _ (e : d ≢ joinClass k (class u) g) (x : n < 4294967296) {new : List ℕ} {q : ℕ}
+        (h : Grown buf new p (ended k (shown k (u ∷ breakTokens g))) q) where
+      grows : Buffered old out at place new q (w .done ++ ended k (shown k (u ∷ breakTokens g)))
+      grows = buffered-grows (w .buffered) (ended k (shown k (u ∷ breakTokens g))) h
+
+      pub writing-more : PartRoom (snPart k t cs ns) old at → Room out place (take q new)
+      writing-more r = buffered-room grows (opened-room (opened-next (w .opened) a e x) r)
+
+      pub writing-next : {last : List ℕ} {to left : ℕ} → Flushed out last place new q to left
+          → Writing k t cs ns old at new last (token d n false) to left next
+      writing-next f =
+          record {
+            done = w .done ++ ended k (shown k (u ∷ breakTokens g));
+            opened = opened-next (w .opened) a e x;
+            buffered = buffered-flushed grows f;
+            few = f .few;
+          }
+
+-- ---- with the limit 0 nothing joins: token by token
+
+first-run : (ts more : List Token) → firstClass ts ≢ 0 → firstClass (ts ++ more) ≢ 0
+first-run [] more r = absurd (r refl)
+first-run (t ∷ ts) more r = r
+
+run-follows : (t u : Token) (us : List Token) → class u ≢ 0 → shown 0 (t ∷ u ∷ us) ≡ dropOnes (t ∷ []) ++ shown 0 (u ∷ us)
+run-follows t u us r = ap dropOnes (simple-run 0 t u us r) ∙ drop-append (t ∷ []) (absorb 0 (joinFrom 0 u us))
+
+module _ (t : Token) (n : ℕ) (h : 1 ≤ n) where
+  abbrev gone : Token
+  gone = token 0 n false
+
+  break-follows : (us : List Token) → class t ≢ 0 → firstClass us ≢ 0 → shown 0 (t ∷ gone ∷ us) ≡ dropOnes (t ∷ []) ++ shown 0 (gone ∷ us)
+  break-follows [] rt r = absurd (r refl)
+  break-follows (v ∷ us) rt r =
+      after-apart 0 t rt gone (v ∷ us) r (inl h)
+      ∙ ap {B = List Token} (λ l. l ++ shown 0 (v ∷ us)) two
+      ∙ append-assoc (dropOnes (t ∷ [])) (dropOnes (gone ∷ [])) (shown 0 (v ∷ us))
+      ∙ ap {B = List Token} (λ l. dropOnes (t ∷ []) ++ l) (sym (run-follows gone v us r))
+    where
+      two : dropOnes (absorb 0 (t ∷ gone ∷ [])) ≡ dropOnes (t ∷ []) ++ dropOnes (gone ∷ [])
+      two = rw (short-long 0 gone h) (drop-append (t ∷ []) (gone ∷ []))
+
+-- a token before others of a part, and what follows the part
+module _ (t : Token) (d n : ℕ) (us more : List Token) (b : Behind (class t) (token d n false ∷ us)) where
+  next-shown : shown 0 (t ∷ ((token d n false ∷ us) ++ more)) ≡ dropOnes (t ∷ []) ++ shown 0 ((token d n false ∷ us) ++ more)
+  next-shown = go d b
+    where
+      go : (d : ℕ) → Behind (class t) (token d n false ∷ us)
+          → shown 0 (t ∷ ((token d n false ∷ us) ++ more)) ≡ dropOnes (t ∷ []) ++ shown 0 ((token d n false ∷ us) ++ more)
+      go zero b = break-follows t n (b .0 refl .1) (us ++ more) (b .0 refl .0) (first-run us more (run-behind us (b .1)))
+      go (suc d) b = run-follows t (token (suc d) n false) (us ++ more) (suc-ne-zero d)
+
+some-follow : (d n : ℕ) (us more : List Token) → Behind d us → 0 < length (shown 0 ((token d n false ∷ us) ++ more))
+some-follow (suc d) n us more b = some-shown 0 (token (suc d) n false) (us ++ more) (suc-ne-zero d)
+some-follow zero n [] more b = absurd (b refl)
+some-follow zero n (token e m s ∷ us) more b =
+    let r : e ≢ 0 = run-behind (token e m s ∷ us) b in
+    rw (run-follows (token 0 n false) (token e m s) (us ++ more) r, length-append)
+    (omega (arith, some-shown 0 (token e m s) (us ++ more) r))
+
+pub next-text : (t : Token) (d n : ℕ) (us more : List Token) → Behind (class t) (token d n false ∷ us)
+    → snOf 0 (t ∷ ((token d n false ∷ us) ++ more)) ≡ ended 0 (dropOnes (t ∷ [])) ++ snOf 0 ((token d n false ∷ us) ++ more)
+next-text t d n us more b =
+    rw (next-shown t d n us more b) (shown-before 0 (dropOnes (t ∷ [])) (shown 0 ((token d n false ∷ us) ++ more)) (some-follow d n us more (b .1)))
+
+-- ---- a part is written, token by token
+
+-- `front` and then the text of the tokens: `done`, and the text of those from place i on
+pub record Listing (front cs ns old : List ℕ) (at : ℕ) (buf out : List ℕ) (place p i : ℕ) : Type 0 where
+  pub done : List ℕ
+  pub whole : (more : List Token) → front ++ snOf 0 (paired cs ns ++ more) ≡ done ++ snOf 0 (drop i (paired cs ns) ++ more)
+  pub earlier : ℕ
+  pub behind : Behind earlier (drop i (paired cs ns))
+  pub buffered : Buffered old out at place buf p done
+  pub few : p ≤ 448
+
+pub listing-starts : (cs ns old : List ℕ) (at : ℕ) (buf : List ℕ) (p c : ℕ) → Behind c (paired cs ns) → p ≤ 448
+    → Listing (take p buf) cs ns old at buf old at p 0
+listing-starts cs ns old at buf p c b h =
+    record { done = take p buf; whole = λ more. refl; earlier = c; behind = b; buffered = buffered-starts buf p; few = h }
+
+module _ {front cs ns old : List ℕ} {at : ℕ} {buf out : List ℕ} {place p i : ℕ} (w : Listing front cs ns old at buf out place p i) where
+  pub listing-room : PartRoom (λ more. front ++ snOf 0 (paired cs ns ++ more)) old at → Room out place (take p buf)
+  listing-room r = buffered-room (w .buffered) (room-first (w .done) _ (rw (w .whole (r .more)) at (r .room)))
+
+  pub listing-long : {new : List ℕ} {r : ℕ} → Wrote out new place (take p buf) r → length new ≡ length old
+  listing-long g = wrote-length (w .done) [] (buffered-ends (w .buffered) g)
+
+  module _ (l : length cs ≡ length ns) where
+    -- the token at i is the last
+    module _ (t : Token) (m : ℕ) (e : i ≡ m) (h : suc m ≡ length cs)
+        (f : (more : List Token) → snPart 0 t cs ns more ≡ front ++ snOf 0 (paired cs ns ++ more)) (s : getD ns m 0 < 4294967296) where
+      last-token : drop i (paired cs ns) ≡ token (getD cs m 0) (getD ns m 0) false ∷ []
+      last-token = rw e (slices-next cs ns m l (omega arith) ∙ rw (none-left cs ns (suc m) (omega arith)))
+
+      pub listing-ends : {new : List ℕ} {r : ℕ} → Wrote out new place (take p buf) r
+          → PartWritten (snPart 0 t cs ns) (snOn 0 (token (getD cs m 0) (getD ns m 0) false)) old new at r × OpenRun t cs (token (getD cs m 0) (getD ns m 0) false)
+      listing-ends g = (
+        record { done = w .done; whole = λ more. f more ∙ w .whole more ∙ rw last-token; wrote = buffered-ends (w .buffered) g },
+        record { run = rw last-token at (w .behind) .1; small = omega arith },
+      )
+
+    -- one more follows
+    module _ (h : i + 1 < length cs) {new : List ℕ} {q : ℕ}
+        (g : Grown buf new p (ended 0 (dropOnes (token (getD cs i 0) (getD ns i 0) false ∷ []))) q) where
+      here : drop i (paired cs ns) ≡ token (getD cs i 0) (getD ns i 0) false ∷ drop (suc i) (paired cs ns)
+      here = slices-next cs ns i l (omega arith)
+
+      there : drop (suc i) (paired cs ns) ≡ token (getD cs (suc i) 0) (getD ns (suc i) 0) false ∷ drop (suc (suc i)) (paired cs ns)
+      there = slices-next cs ns (suc i) l (omega arith)
+
+      on : Behind (getD cs i 0) (drop (suc i) (paired cs ns))
+      on = rw here at (w .behind) .1
+
+      abbrev chunk : List ℕ
+      chunk = ended 0 (dropOnes (token (getD cs i 0) (getD ns i 0) false ∷ []))
+
+      on-whole : (more : List Token) → front ++ snOf 0 (paired cs ns ++ more) ≡ (w .done ++ chunk) ++ snOf 0 (drop (suc i) (paired cs ns) ++ more)
+      on-whole more =
+          w .whole more
+          ∙ rw (here, there)
+          (ap {B = List ℕ} (λ l. w .done ++ l) (next-text (token (getD cs i 0) (getD ns i 0) false) (getD cs (suc i) 0) (getD ns (suc i) 0) (drop (suc (suc i)) (paired cs ns)) more (rw there at on))
+          ∙ sym (append-assoc (w .done) chunk _))
+
+      pub listing-more : PartRoom (λ more. front ++ snOf 0 (paired cs ns ++ more)) old at → Room out place (take q new)
+      listing-more r = buffered-room (buffered-grows (w .buffered) chunk g) (room-first (w .done ++ chunk) _ (rw (on-whole (r .more)) at (r .room)))
+
+      pub listing-next : {last : List ℕ} {to left : ℕ} → Flushed out last place new q to left → Listing front cs ns old at new last to left (i + 1)
+      listing-next f =
+          rw add-one
+          (record {
+            done = w .done ++ chunk;
+            whole = on-whole;
+            earlier = getD cs i 0;
+            behind = on;
+            buffered = buffered-flushed (buffered-grows (w .buffered) chunk g) f;
+            few = f .few;
+          })
+
+-- the open run before them
+module _ (c n : ℕ) (s : Bool) {cs ns : List ℕ} (b : TokensBehind c cs ns) (h : length cs ≢ 0) where
+  pub first-text : (more : List Token) → snPart 0 (token c n s) cs ns more ≡ (word (run c n s) ++ (32 ∷ [])) ++ snOf 0 (paired cs ns ++ more)
+  first-text more =
+      let e : paired cs ns ≡ token (getD cs 0 0) (getD ns 0 0) false ∷ drop 1 (paired cs ns) = slices-next cs ns 0 (b .long) (omega arith) in
+      rw e
+      (next-text (token c n s) (getD cs 0 0) (getD ns 0 0) (drop 1 (paired cs ns)) more (rw e at (b .behind))
+      ∙ rw (drop-run (token c n s) [] (b .run), alone-text 0 c n s 0 (b .run)))
+
+-- ---- a part is measured, run by run
+
+-- how many bytes a long break has
+module _ (k g : ℕ) where
+  pub long-none : (ltb 1 g && ltb k g) ≡ false → Measured (ended k (longBreak k g)) 23 0
+  long-none e = rw e (record { number = refl; short = omega arith })
+
+  pub long-parens : k ≡ 0 → (ltb 1 g && ltb k g) ≡ true → {r : ℕ} → DigitCount g r → Measured (ended k (longBreak k g)) 23 (3 + r)
+  long-parens z e d = rw (e, z) (record { number = simp length-append (omega (arith, d .number)); short = omega (arith, d .most) })
+
+  pub long-sign : k ≢ 0 → (ltb 1 g && ltb k g) ≡ true → Measured (ended k (longBreak k g)) 23 2
+  long-sign z e = rw (e, sign-item k g z) (record { number = simp length-append (omega (arith, sign-one 32 g)); short = omega arith })
+
+pub group-length : (k : ℕ) (t : Token) (c n : ℕ) (s : Bool) (g : ℕ) {a b : ℕ} → WithBreak k t g (token c n s) → Measured (word (run c n s)) 23 a
+    → Measured (ended k (longBreak k g)) 23 b → Measured (ended k (shown k (t ∷ breakTokens g))) 47 (a + 1 + b)
+group-length k t c n s g w x y =
+    rw (w .shows, run-item (breakItem k) c n s (w .run))
+    (record {
+      number = omega (arith, x .number, y .number, length-append (word (run c n s)) (32 ∷ []), length-append (word (run c n s) ++ (32 ∷ [])) (ended k (longBreak k g)));
+      short = omega (arith, x .short, y .short);
+    })
+
+-- `total` bytes are counted of it
+pub record Counting (k : ℕ) (t : Token) (cs ns : List ℕ) (u : Token) (total i : ℕ) : Type 0 where
+  pub done : List ℕ
+  pub opened : Opened k t cs ns done u i
+  pub number : total ≡ length done
+  pub short : total ≤ 47 * i
+
+pub counting-starts : (k : ℕ) (t : Token) {cs ns : List ℕ} → TokensBehind (class t) cs ns → Counting k t cs ns t 0 0
+counting-starts k t h = record { done = []; opened = opened-starts k t h; number = refl; short = omega arith }
+
+module _ {k : ℕ} {t : Token} {cs ns : List ℕ} {u : Token} {total i : ℕ} (w : Counting k t cs ns u total i) where
+  pub counting-ends : length cs ≤ i → PartMeasured (snPart k t cs ns) (snOn k u) (47 * length cs) total × OpenRun t cs u
+  counting-ends h = (
+    record {
+      whole = λ more. omega (arith, w .number, ap length (opened-whole (w .opened) h more), length-append (w .done) (snOn k u more));
+      short = omega (arith, w .short, w .opened .within);
+    },
+    opened-ends (w .opened) h,
+  )
+
+  module _ {g d n next : ℕ} (a : RunAt cs ns i g d n next) where
+    pub counting-joins : d ≡ joinClass k (class u) g → g < 4294967296 → n < 4294967296 → Counting k t cs ns (token d (len u + (g + n)) true) (total + 0) next
+    counting-joins e x y =
+        rw (joins-over k (class u) g (a .run) e .2)
+        (record {
+          done = w .done;
+          opened = opened-joins (w .opened) a e x y;
+          number = omega (arith, w .number);
+          short = omega (arith, w .short, a .on);
+        })
+
+    pub counting-next : d ≢ joinClass k (class u) g → n < 4294967296 → {r : ℕ} → Measured (ended k (shown k (u ∷ breakTokens g))) 47 r
+        → Counting k t cs ns (token d n false) (total + r) next
+    counting-next e x m =
+        record {
+          done = w .done ++ ended k (shown k (u ∷ breakTokens g));
+          opened = opened-next (w .opened) a e x;
+          number = omega (arith, w .number, m .number, length-append (w .done) (ended k (shown k (u ∷ breakTokens g))));
+          short = omega (arith, w .short, m .short, a .on);
+        }

@@ -1,0 +1,263 @@
+-- Standard texts part by part: one turn over a token, the pieces that are done, a part written and measured.
+-- Assumes nothing.
+use Prim.Native.Nat.{ℕ, zero, suc, _+_, _*_, _<_, _≤_}
+use mathlib.Core.Path.{_≡_, refl, sym, ap, _∙_}
+use mathlib.Core.Bool.{Bool, true, false, cond, _||_}
+use mathlib.Core.Logic.{_≢_}
+use mathlib.Core.List.{List, [], _∷_, _++_, map, append-assoc, append-nil}
+use native.Mathlib.Numerals.{add-one}
+use native.Mathlib.Omega.{arith}
+use lib.Dec.{eqb, ltb}
+use lib.ListN.{length, drop, getD, set, length-append, length-set}
+use lib.Seq.{getD-set-same, getD-set-other}
+use borrow.Author.Tests.{eqb-true, eqb-false, ltb-true, ltb-false, le-ltb}
+use Rattle.number.specs.Place.{Room, Wrote}
+use Rattle.number.proofs.Place.{still, room-first, room-next, wrote, wrote-length}
+use Rattle.number.proofs.Split.{split}
+use Rattle.rules.specs.Chart.{Token, token}
+use Rattle.rules.specs.Reduced.{item}
+use Rattle.rules.specs.Texts.{part, strung}
+use Rattle.measures.specs.Scan.{paired}
+use Rattle.breakdown.specs.Put.{Measured}
+use Rattle.breakdown.specs.Behind.{Behind}
+use Rattle.breakdown.specs.Standard.{gapItem}
+use Rattle.breakdown.specs.Parts.{PartMeasured, PartRoom, PartWritten, TokensBehind, standardFrom, standardPart}
+use Rattle.breakdown.specs.Filled.{doneText, doneTexts, Long, Standing, Filled}
+use Rattle.breakdown.proofs.Pieces.{after-run, after-over, after-apart, none-before}
+use Rattle.breakdown.proofs.Reading.{none-left, slices-next}
+
+-- ---- the text behind an open piece, by the token that follows
+
+abbrev shownText : Bool → List Token → List ℕ
+shownText b l = strung part (map (item (gapItem b)) l)
+
+module _ (b : Bool) (k n : ℕ) (s : Bool) where
+  run-text : (c m : ℕ) (ts : List Token) → c ≢ 0 → standardFrom b k n s (token c m false ∷ ts) ≡ standardFrom b k (n + m) s ts
+  run-text c m ts h = ap (shownText b) (after-run k n s c m ts h)
+
+  module _ (g c m : ℕ) (ts : List Token) (h : c ≢ 0) where
+    over-text : g ≤ k → standardFrom b k n s (token 0 g false ∷ token c m false ∷ ts) ≡ standardFrom b k (n + g) true (token c m false ∷ ts)
+    over-text l = ap (shownText b) (after-over k n s g (token c m false ∷ ts) h l)
+
+    apart-text : k < g
+        → standardFrom b k n s (token 0 g false ∷ token c m false ∷ ts) ≡ doneText b n s g ++ standardFrom b k 0 false (token c m false ∷ ts)
+    apart-text l =
+        ap (shownText b) (after-apart k n s g (token c m false ∷ ts) h l ∙ ap (λ (r : List Token). token 1 n s ∷ token 0 g false ∷ r) (none-before k c m ts h))
+        ∙ simp append-assoc
+
+-- ---- tokens in two slices
+
+-- a run first
+pub record RunFirst (ts : List Token) : Type 0 where
+  pub class : ℕ
+  pub len : ℕ
+  pub rest : List Token
+  pub here : ts ≡ token class len false ∷ rest
+  pub run : class ≢ 0
+
+run-first : (cs ns : List ℕ) (i : ℕ) → Behind 0 (drop i (paired cs ns)) → RunFirst (drop i (paired cs ns))
+run-first [] ns zero h = absurd (h refl)
+run-first [] ns (suc i) h = absurd (h refl)
+run-first (c ∷ cs) [] zero h = absurd (h refl)
+run-first (c ∷ cs) [] (suc i) h = absurd (h refl)
+run-first (c ∷ cs) (n ∷ ns) zero h = record { class = c; len = n; rest = paired cs ns; here = refl; run = λ e. h .0 e .0 refl }
+run-first (c ∷ cs) (n ∷ ns) (suc i) h = run-first cs ns i h
+
+pub standing-first : {cs ns : List ℕ} → TokensBehind 1 cs ns → Standing cs ns 0
+standing-first h = record { long = h .long; few = h .few; within = omega arith; last = 1; behind = h .behind }
+
+module _ {cs ns : List ℕ} {i : ℕ} (p : Standing cs ns i) (l : i < length cs) where
+  token-next : drop i (paired cs ns) ≡ token (getD cs i 0) (getD ns i 0) false ∷ drop (i + 1) (paired cs ns)
+  token-next = slices-next cs ns i (p .long) l ∙ rw add-one
+
+  pub standing-next : Standing cs ns (i + 1)
+  standing-next =
+      record { long = p .long; few = p .few; within = omega arith; last = getD cs i 0; behind = (rw token-next at (p .behind)) .1 }
+
+-- ---- one turn: the token at place i, behind an open piece of n measures and star s
+
+-- the gap of a token of class c and length g: none has 0, and is never shown
+abbrev pub gapOf : ℕ → ℕ → ℕ
+gapOf c g = cond (eqb c 0) g 0
+
+module _ {cs ns : List ℕ} {i : ℕ} (p : Standing cs ns i) (l : i < length cs) (k n : ℕ) (s : Bool) where
+  abbrev c : ℕ
+  c = getD cs i 0
+
+  abbrev g : ℕ
+  g = getD ns i 0
+
+  abbrev left : List Token
+  left = drop (i + 1) (paired cs ns)
+
+  follows : c ≡ 0 → RunFirst left
+  unfolding standing-next
+  follows z = run-first cs ns (i + 1) (rw z at (standing-next p l .behind))
+
+  module _ (b : Bool) (more : List Token) where
+    abbrev Turned : List ℕ → ℕ → Bool → Type 0
+    Turned xs m t = standardFrom b k n s (token c g false ∷ (left ++ more)) ≡ xs ++ standardFrom b k m t (left ++ more)
+
+    on-gap : c ≡ 0 → g ≤ k → Turned [] (n + g) true
+    on-gap z h = let f = follows z in rw (z, f .here) (over-text b k n s g (f .class) (f .len) (f .rest ++ more) (f .run) h)
+
+    on-shown : c ≡ 0 → k < g → Turned (doneText b n s g) 0 false
+    on-shown z h = let f = follows z in rw (z, f .here) (apart-text b k n s g (f .class) (f .len) (f .rest ++ more) (f .run) h)
+
+    picked : Turned (cond (ltb k (gapOf c g)) (doneText b n s g) []) (cond (ltb k (gapOf c g)) 0 (n + g)) (cond (ltb k (gapOf c g)) false (eqb c 0 || s))
+    picked =
+        split (eqb c 0)
+        (λ z. split (ltb k g)
+        (λ h. rw (z, h) (on-shown (eqb-true _ _ z) (ltb-true _ _ h)))
+        (λ h. rw (z, h) (on-gap (eqb-true _ _ z) (ltb-false _ _ h))))
+        (λ z. rw (z, le-ltb k 0 (omega arith)) (run-text b k n s c g (left ++ more) (eqb-false _ _ z)))
+
+    pub turn-text : {wide : ℕ} → wide ≡ gapOf c g → standardFrom b k n s (drop i (paired cs ns) ++ more)
+        ≡ cond (ltb k wide) (doneText b n s g) [] ++ standardFrom b k (cond (ltb k wide) 0 (n + g)) (cond (ltb k wide) false (eqb c 0 || s)) (left ++ more)
+    turn-text w = rw (w, token-next p l) picked
+
+-- a piece grows by less than 2³²
+turn-small : (b : Bool) (n g : ℕ) → g < 4294967296 → cond b 0 (n + g) ≤ n + 4294967296
+turn-small true n g h = omega arith
+turn-small false n g h = omega arith
+
+turn-few : (b : Bool) (n : ℕ) → cond b (n + 1) n ≤ n + 1
+turn-few true n = omega arith
+turn-few false n = omega arith
+
+-- ---- the pieces that are done
+
+module _ (b : Bool) (ls : List ℕ) (ts : List Bool) (gs : List ℕ) (count n : ℕ) (t : Bool) (g : ℕ) where
+  kept : (i : ℕ) → i ≤ count → doneTexts b i (set ls count n) (set ts count t) (set gs count g) ≡ doneTexts b i ls ts gs
+  kept zero h = refl
+  kept (suc i) h =
+      let e : i ≢ count = λ x. omega arith in
+      rw (kept i (omega arith), getD-set-other ls count i n 0 e, getD-set-other ts count i t false e, getD-set-other gs count i g 0 e)
+
+  -- stored behind the others, and kept or not
+  one-more : (shown : Bool) → Long ls ts gs → count < 16
+      → doneTexts b (cond shown (count + 1) count) (set ls count n) (set ts count t) (set gs count g) ≡ doneTexts b count ls ts gs ++ cond shown (doneText b n t g) []
+  one-more true h l =
+      rw (add-one, kept count (omega arith), getD-set-same ls count n 0 (omega (arith, h .lengths)), getD-set-same ts count t false (omega (arith, h .stars)), getD-set-same gs count g 0 (omega (arith, h .gaps)))
+  one-more false h l = rw (kept count (omega arith), append-nil)
+
+pub long-still : {ls : List ℕ} {ts : List Bool} {gs : List ℕ} (i n : ℕ) (t : Bool) (g : ℕ) → Long ls ts gs → Long (set ls i n) (set ts i t) (set gs i g)
+long-still {ls} {ts} {gs} i n t g h =
+    record { lengths = length-set ls i n ∙ h .lengths; stars = length-set ts i t ∙ h .stars; gaps = length-set gs i g ∙ h .gaps }
+
+-- room for the first pieces where there is room for more
+done-more : (b : Bool) (ls : List ℕ) (ts : List Bool) (gs : List ℕ) (i n : ℕ) → i ≤ n → length (doneTexts b i ls ts gs) ≤ length (doneTexts b n ls ts gs)
+done-more b ls ts gs i zero h = let e : i ≡ 0 = omega arith in rw e (omega arith)
+done-more b ls ts gs i (suc n) h =
+    split (eqb i (suc n))
+    (λ e. rw (eqb-true i (suc n) e) (omega arith))
+    (λ e. rw length-append (omega (arith, done-more b ls ts gs i n (omega (arith, eqb-false i (suc n) e)))))
+
+pub done-room : {old : List ℕ} {at : ℕ} (b : Bool) (ls : List ℕ) (ts : List Bool) (gs : List ℕ) (i n : ℕ) → i ≤ n → Room old at (doneTexts b n ls ts gs) → Room old at (doneTexts b i ls ts gs)
+done-room b ls ts gs i n l h = record { fits = omega (arith, h .fits, done-more b ls ts gs i n l) }
+
+-- ---- the loop of `fill`
+
+pub filled-starts : {cs ns : List ℕ} (k n : ℕ) (s : Bool) (ls : List ℕ) (ts : List Bool) (gs : List ℕ) {i : ℕ} → Standing cs ns i → Filled cs ns k i n s i n s 0 ls ts gs
+filled-starts k n s ls ts gs p = record { whole = λ b more. refl; standing = p; few = omega arith; small = omega arith }
+
+module _ {cs ns : List ℕ} {k i n : ℕ} {s : Bool} {j m : ℕ} {t : Bool} {count : ℕ} {ls : List ℕ} {ts : List Bool} {gs : List ℕ}
+    (p : Filled cs ns k i n s j m t count ls ts gs) (l : j < length cs) (fits : getD ns j 0 < 4294967296)
+    (long : Long ls ts gs) (room : count < 16) where
+  pub turned : {wide r : ℕ} {u : Bool} {next : ℕ} → wide ≡ gapOf (getD cs j 0) (getD ns j 0) → r ≡ cond (ltb k wide) 0 (m + getD ns j 0)
+      → u ≡ cond (ltb k wide) false (eqb (getD cs j 0) 0 || t)
+      → next ≡ cond (ltb k wide) (count + 1) count
+      → Filled cs ns k i n s (j + 1) r u next (set ls count m) (set ts count t) (set gs count (getD ns j 0))
+  turned {wide} {r} {u} {next} w a b d =
+      let g = getD ns j 0 in
+      let shown = ltb k wide in
+      record {
+        whole = λ f more. p .whole f more
+            ∙ rw (turn-text (p .standing) l k m t f more w, a, b, d, one-more f ls ts gs count m t g shown long room)
+            (sym (append-assoc (doneTexts f count ls ts gs) _ _));
+        standing = standing-next (p .standing) l;
+        few = omega (arith, p .few, d, turn-few shown count);
+        small = omega (arith, p .small, a, turn-small shown m g fits);
+      }
+
+-- ---- a part: `out` up to `place` has the text of the tokens before place i, behind which a piece of m measures and star t is open
+
+module _ (b : Bool) (k n : ℕ) (s : Bool) (cs ns old : List ℕ) (at : ℕ) where
+  pub record Parted (out : List ℕ) (place i m : ℕ) (t : Bool) : Type 0 where
+    pub standing : Standing cs ns i
+    pub small : m ≤ n + 4294967296 * i
+    pub written : PartWritten (standardPart b k n s cs ns) (λ more. standardFrom b k m t (drop i (paired cs ns) ++ more)) old out at place
+
+  pub part-starts : TokensBehind 1 cs ns → Parted old at 0 n s
+  part-starts h =
+      record {
+        standing = standing-first h;
+        small = omega arith;
+        written = record { done = []; whole = λ more. refl; wrote = still };
+      }
+
+  module _ {out : List ℕ} {place i m : ℕ} {t : Bool} (p : Parted out place i m t) where
+    module _ {next r : ℕ} {u : Bool} {count : ℕ} {ls : List ℕ} {ts : List Bool} {gs : List ℕ} (f : Filled cs ns k i m t next r u count ls ts gs) where
+      pub part-room : PartRoom (standardPart b k n s cs ns) old at → Room out place (doneTexts b count ls ts gs)
+      part-room h =
+          let more = h .more in
+          let w = p .written in
+          room-first _ _ (room-next (w .done) _ (w .wrote) (rw (w .whole more, f .whole b more) at (h .room)))
+
+      pub part-step : {new : List ℕ} {q : ℕ} → Wrote out new place (doneTexts b count ls ts gs) q → Parted new q next r u
+      part-step h =
+          let w = p .written in
+          record {
+            standing = f .standing;
+            small = omega (arith, p .small, f .small);
+            written =
+                record {
+                  done = w .done ++ doneTexts b count ls ts gs;
+                  whole = λ more. w .whole more ∙ rw (f .whole b more) (sym (append-assoc (w .done) _ _));
+                  wrote = wrote (w .done) _ (w .wrote) h;
+                };
+          }
+
+    pub part-end : length cs ≤ i → PartWritten (standardPart b k n s cs ns) (standardFrom b k m t) old out at place × (m ≤ n + 4294967296 * length cs)
+    part-end h =
+        let w = p .written in
+        (record { done = w .done; whole = λ more. w .whole more ∙ rw (none-left cs ns i h); wrote = w .wrote }, omega (arith, p .small, p .standing .within))
+
+    pub part-long : length out ≡ length old
+    part-long = wrote-length _ [] (p .written .wrote)
+
+-- ---- a part measured: the text of the tokens before place i has `total` bytes
+
+chosen : (b : Bool) (xs : List ℕ) (r : ℕ) → Measured xs 47 r → (cond b r 0 ≡ length (cond b xs [])) × (cond b r 0 ≤ 47)
+chosen true xs r h = (h .number, h .short)
+chosen false xs r h = (refl, omega arith)
+
+module _ (b : Bool) (k n : ℕ) (s : Bool) (cs ns : List ℕ) where
+  pub record Counting (total i m : ℕ) (t : Bool) : Type 0 where
+    pub standing : Standing cs ns i
+    pub small : m ≤ n + 4294967296 * i
+    pub short : total ≤ 47 * i
+    pub sum : (more : List Token) → length (standardPart b k n s cs ns more) ≡ total + length (standardFrom b k m t (drop i (paired cs ns) ++ more))
+
+  pub counting-starts : TokensBehind 1 cs ns → Counting 0 0 n s
+  counting-starts h = record { standing = standing-first h; small = omega arith; short = omega arith; sum = λ more. omega arith }
+
+  module _ {total i m : ℕ} {t : Bool} (p : Counting total i m t) where
+    pub counting-turn : {wide x d r : ℕ} {u : Bool} → wide ≡ gapOf (getD cs i 0) (getD ns i 0) → i < length cs → getD ns i 0 < 4294967296 → Measured (doneText b m t (getD ns i 0)) 47 x
+        → d ≡ cond (ltb k wide) x 0 → r ≡ cond (ltb k wide) 0 (m + getD ns i 0)
+        → u ≡ cond (ltb k wide) false (eqb (getD cs i 0) 0 || t) → Counting (total + d) (i + 1) r u
+    counting-turn {wide} {x} {d} w l f h a e v =
+        let g = getD ns i 0 in
+        let shown = ltb k wide in
+        let z = chosen shown (doneText b m t g) x h in
+        record {
+          standing = standing-next (p .standing) l;
+          small = omega (arith, p .small, e, turn-small shown m g f);
+          short = omega (arith, p .short, a, z .1);
+          sum = λ more. p .sum more ∙ rw (turn-text (p .standing) l k m t b more w, ← e, ← v, length-append (cond shown (doneText b m t g) []) _) (omega (arith, a, z .0));
+        }
+
+    pub counting-end : length cs ≤ i → PartMeasured (standardPart b k n s cs ns) (standardFrom b k m t) (47 * length cs) total × (m ≤ n + 4294967296 * length cs)
+    counting-end h =
+        let w = p .standing .within in
+        (record { whole = λ more. p .sum more ∙ rw (none-left cs ns i h); short = omega (arith, p .short) }, omega (arith, p .small))

@@ -1,0 +1,24 @@
+-- `breakdown::buffer::flush` meets its contract.
+-- Assumes nothing.
+use mathlib.Core.Path.{refl, sym}
+use mathlib.Core.List.{[], append-nil}
+use native.Mathlib.Omega.{arith}
+use borrow.Author.Needs.{needs}
+use Rattle.number.proofs.Place.{still}
+use Rattle.breakdown.proofs.buffer.flush.Statement.{statement}
+use Rattle.breakdown.proofs.buffer.flush.Tie as tie
+
+put-buffer-requires : tie.Need-put-buffer-requires
+put-buffer-requires c κs = search needs
+
+same-length : tie.Need-same-length
+same-length c = search needs
+
+returns : tie.Need-returns
+returns c = record { front = _; wrote = c .before .before .put-buffer .ensures; all = sym (append-nil _); few = omega arith }
+
+returns-2 : tie.Need-returns-2
+returns-2 c = record { front = []; wrote = still; all = refl; few = c .if1 .left }
+
+pub flush-spec : {M : Type 1} → statement M
+flush-spec = tie.close (tie.spec put-buffer-requires same-length returns returns-2)

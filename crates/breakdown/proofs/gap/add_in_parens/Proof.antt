@@ -1,0 +1,35 @@
+-- `breakdown::gap::add_in_parens` meets its contract.
+-- Assumes nothing.
+use mathlib.Core.List.{[], _∷_}
+use native.Mathlib.Omega.{arith}
+use Rattle.number.proofs.Digits.{at-most}
+use Rattle.breakdown.proofs.Growing.{grown}
+use borrow.Author.Needs.{needs}
+use Rattle.breakdown.proofs.gap.add_in_parens.Statement.{statement}
+use Rattle.breakdown.proofs.gap.add_in_parens.Tie as tie
+
+add-byte-requires : tie.Need-add-byte-requires
+add-byte-requires c κs = search needs
+
+add-number-requires : tie.Need-add-number-requires
+add-number-requires c κs = search needs
+
+add-byte-requires-2 : tie.Need-add-byte-requires-2
+add-byte-requires-2 c κs =
+    let s = c .before .before .before .before .before .before .before .before .before .before in
+    let w = c .before .before .before in
+    let v = c .before .before .before .before .before .before .before .add-byte .ensures in
+    omega (arith, s .pre, at-most 20 (s .args .n) (omega arith) (omega arith), v .next, v .long, w .add-number .ensures .next, w .add-number .ensures .long)
+
+same-length : tie.Need-same-length
+same-length c = search needs
+
+returns : tie.Need-returns
+returns c =
+    let g = grown _ (41 ∷ []) (c .before .before .before .before .before .before .add-number .ensures) (c .before .before .add-byte2 .ensures) in
+    grown (40 ∷ []) _ (c .before .before .before .before .before .before .before .before .before .before .add-byte .ensures) g
+
+pub add-in-parens-spec : {M : Type 1} → statement M
+add-in-parens-spec =
+    tie.close
+    (tie.spec add-byte-requires add-number-requires add-byte-requires-2 same-length returns)

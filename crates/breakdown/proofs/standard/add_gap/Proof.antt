@@ -1,0 +1,28 @@
+-- `breakdown::standard::add_gap` meets its contract.
+-- Assumes nothing.
+use borrow.Author.Needs.{needs}
+use Rattle.breakdown.proofs.standard.add_gap.Statement.{statement}
+use Rattle.breakdown.proofs.standard.add_gap.Tie as tie
+
+add-sign-requires : tie.Need-add-sign-requires
+add-sign-requires c κs = search needs
+
+same-length : tie.Need-same-length
+same-length c = search needs
+
+returns : tie.Need-returns
+returns c = rw (c .before .before .before .before .if1 .taken) (c .before .before .add-sign .ensures)
+
+add-length-requires : tie.Need-add-length-requires
+add-length-requires c κs = search needs
+
+same-length-2 : tie.Need-same-length-2
+same-length-2 c = search needs
+
+returns-2 : tie.Need-returns-2
+returns-2 c = rw (c .before .before .before .before .if1 .left) (c .before .before .add-length .ensures)
+
+pub add-gap-spec : {M : Type 1} → statement M
+add-gap-spec =
+    tie.close
+    (tie.spec add-sign-requires same-length returns add-length-requires same-length-2 returns-2)
