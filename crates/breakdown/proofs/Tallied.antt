@@ -13,7 +13,7 @@ use Rattle.rules.specs.declared.ViewToken.{ViewToken}
 use Rattle.measures.specs.Scan.{FirstTokens}
 use Rattle.measures.specs.declared.scan.Taken.{Taken}
 use Rattle.breakdown.specs.Forms.{textOf, openText, ActiveMeasures}
-use Rattle.breakdown.specs.Lengths.{FirstTally, TallyReady, TallyOn, ended}
+use Rattle.breakdown.specs.Lengths.{FirstTally, TallyReady, TallyOn, endedLength}
 use Rattle.breakdown.specs.declared.form.Form.{Form}
 use Rattle.breakdown.specs.declared.run.Tally.{Tally}
 use Rattle.breakdown.proofs.PartByPart.{Along, first-along, first-text, from, part-tokens, on, rest, at-end}
@@ -54,5 +54,5 @@ module _ {m : List ℕ} {i : ℕ} {cs₀ cs ns₀ ns : List ℕ} {v : Taken} (fe
 pub tally-short : {m : List ℕ} {i : ℕ} {f : Form} {t : Tally} → length m ≤ 1048576 → Tallied m i f t → t .length ≤ 2 ^ 62
 tally-short few d = omega (arith, d .short, d .along .within)
 
-pub tally-ends : {m : List ℕ} {i : ℕ} {f : Form} {t : Tally} → Tallied m i f t → length m ≤ i → ended t ≡ length (textOf f (runs (classes m)))
+pub tally-ends : {m : List ℕ} {i : ℕ} {f : Form} {t : Tally} → Tallied m i f t → length m ≤ i → endedLength t ≡ length (textOf f (runs (classes m)))
 tally-ends {t = t} d h = ap (λ (xs : List ℕ). t .length + length xs) (sym (at-end (d .along) h)) ∙ d .sum

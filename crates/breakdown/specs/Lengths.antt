@@ -34,8 +34,8 @@ pub record TallyOn (f : Form) (t : Tally) (cs ns : List ℕ) (u : Tally) : Type 
   pub next : OpenNext f (t .run) (length cs) (u .run)
 
 -- the length, with the last run or piece
-abbrev pub ended : Tally → ℕ
-ended t = t .length + length (runText (t .run))
+abbrev pub endedLength : Tally → ℕ
+endedLength t = t .length + length (runText (t .run))
 
 -- of each of the six forms and its tally
 abbrev pub each : (Form → Tally → Type 0) → Six → Type 0
@@ -48,7 +48,7 @@ bothEach P s u =
     P (snForm 0) (s .a) (u .a) × P (snForm 1) (s .b) (u .b) × P (snForm 4) (s .c) (u .c) × P (standardForm 0 false) (s .d) (u .d) × P (standardForm 0 true) (s .e) (u .e) × P (standardForm 1 true) (s .f) (u .f)
 
 pub record LastTallies (s : Six) (r : List ℕ) : Type 0 where
-  pub number : r ≡ ended (s .a) ∷ ended (s .b) ∷ ended (s .c) ∷ ended (s .d) ∷ ended (s .e) ∷ ended (s .f) ∷ []
+  pub number : r ≡ endedLength (s .a) ∷ endedLength (s .b) ∷ endedLength (s .c) ∷ endedLength (s .d) ∷ endedLength (s .e) ∷ endedLength (s .f) ∷ []
 
 -- the lengths of the six texts of some tokens
 abbrev pub sixLengths : List Token → List ℕ

@@ -18,7 +18,7 @@ ghost use mathlib.Core.Logic.{_≢_};
 ghost use lib.ListN.{length};
 ghost use Rattle.rules.specs.Chart.{classes, runs};
 ghost use Rattle.breakdown.specs.Forms.{textOf, ActiveMeasures};
-ghost use Rattle.breakdown.specs.Lengths.{FirstTally, TallyReady, TallyOn, each, bothEach, ended, LastTallies, DueOf};
+ghost use Rattle.breakdown.specs.Lengths.{FirstTally, TallyReady, TallyOn, each, bothEach, endedLength, LastTallies, DueOf};
 
 fn first_tally(form: Form, class: u8, n: u32) -> Tally
     requires { ⌜ class ≢ 0 ⌝ }
@@ -63,7 +63,7 @@ fn tally_part(cs: &[u8], ns: &[u32], form: Form, t: Tally) -> Tally
 // With the last run or piece.
 fn tally_end(t: Tally) -> usize
     requires { ⌜ t .length ≤ 2 ^ 62 ⌝ }
-    ensures { λ r. ⌜ r ≡ ended t ⌝ }
+    ensures { λ r. ⌜ r ≡ endedLength t ⌝ }
 {
     t.length + run_length(t.run)
 }
