@@ -1,6 +1,6 @@
 -- Single bytes and short texts, by cases on their numbers.
 -- Assumes nothing.
-use Prim.Native.Nat.{ℕ, zero, suc, _+_, _*_, _/_, _%_, _^_, _≤_, _<_, min}
+use Prim.Native.Nat.{ℕ, zero, suc, _^_, _≤_, _<_}
 use mathlib.Core.Path.{_≡_, refl}
 use mathlib.Core.Logic.{_≢_}
 use mathlib.Core.Bool.{Bool, true, false}
@@ -33,30 +33,6 @@ mark-none zero h = refl
 mark-none (suc zero) h = refl
 mark-none (suc (suc c)) h = absurd (omega arith)
 
--- the bytes of a table of five: nothing or b for a break, and the marks
-abbrev marks : ℕ
-marks = 263544766464
-
-abbrev pub atClass : ℕ → ℕ → ℕ
-atClass table c = table / 2 ^ (8 * min c 4) % 256
-
-most : (c : ℕ) → min (suc (suc (suc (suc c)))) 4 ≡ 4
-most c = omega arith
-
-pub mark-at : (c : ℕ) → byteText (atClass marks c) ≡ mark c
-mark-at zero = refl
-mark-at (suc zero) = refl
-mark-at (suc (suc zero)) = refl
-mark-at (suc (suc (suc zero))) = refl
-mark-at (suc (suc (suc (suc c)))) = rw (most c) refl
-
-pub side-at : (b c : ℕ) → b < 256 → byteText (atClass (marks + b) c) ≡ side b c
-side-at b zero h = let e : (marks + b) / 1 % 256 ≡ b = omega arith in rw e refl
-side-at b (suc zero) h = let e : (marks + b) / 256 % 256 ≡ 0 = omega arith in rw e refl
-side-at b (suc (suc zero)) h = let e : (marks + b) / 65536 % 256 ≡ 126 = omega arith in rw e refl
-side-at b (suc (suc (suc zero))) h = let e : (marks + b) / 16777216 % 256 ≡ 92 = omega arith in rw e refl
-side-at b (suc (suc (suc (suc c)))) h = let e : (marks + b) / 4294967296 % 256 ≡ 61 = omega arith in rw (most c, e) refl
-
 pub mark-short : (c : ℕ) → length (mark c) ≤ 1
 mark-short zero = omega arith
 mark-short (suc zero) = omega arith
@@ -70,6 +46,10 @@ mark-one (suc zero) h = absurd (omega arith)
 mark-one (suc (suc zero)) h = refl
 mark-one (suc (suc (suc zero))) h = refl
 mark-one (suc (suc (suc (suc c)))) h = refl
+
+pub side-short : (b c : ℕ) → length (side b c) ≤ 1
+side-short b zero = byte-short b
+side-short b (suc c) = mark-short (suc c)
 
 pub star-short : (s : Bool) → length (star s) ≤ 1
 star-short true = omega arith

@@ -1,4 +1,4 @@
--- Laws of `Grown`: one text after the other, and a text that is not kept.
+-- Laws of `Grown`: one text after the other, and a text of which a part is kept, or nothing.
 -- Assumes nothing.
 use Prim.Native.Nat.{ℕ, _+_, _/_, _%_, _≤_, _<_}
 use mathlib.Core.Path.{_≡_, refl, sym, ap, _∙_}
@@ -6,14 +6,29 @@ use mathlib.Core.List.{List, [], _∷_, _++_, append-assoc, append-nil}
 use native.Mathlib.Nat.{add-zero}
 use native.Mathlib.Numerals.{add-one}
 use native.Mathlib.Omega.{arith}
-use lib.ListN.{length, take, set, length-append, length-set, length-take}
-use lib.Seq.{length-take-le, take-suc-set, take-take, take-append-le}
+use lib.ListN.{length, take, drop, set, length-append, length-set, length-take}
+use lib.Seq.{length-take-le, length-sets, sets-eq, take-suc-set, take-take, take-append-add, take-at}
 use Rattle.number.specs.Digits.{digits}
-use Rattle.number.specs.Place.{Room}
-use Rattle.number.proofs.Digits.{digits-one, digits-more, length-more}
+use Rattle.number.specs.Place.{Room, Wrote}
+use Rattle.number.proofs.Digits.{digits-more, length-more}
 use Rattle.breakdown.specs.Buffer.{Grown}
+use Rattle.breakdown.specs.Words.{Word, wordText}
 
 module _ {old : List ℕ} {k : ℕ} where
+  pub grown-none : Grown old old k [] k
+  grown-none = record { next = sym (add-zero k); front = sym (append-nil (take k old)); long = refl }
+
+  -- a text that was written where there is room for it
+  pub wrote-grown : (xs : List ℕ) {new : List ℕ} {r : ℕ} → Room old k xs → Wrote old new k xs r → Grown old new k xs r
+  wrote-grown xs {new} {r} f w =
+      record {
+        next = w .next;
+        front =
+            ap (take r) (w .bytes ∙ sets-eq xs old k (f .fits))
+            ∙ take-at (take k old ++ xs) (drop (k + length xs) old) r (omega (arith, length-append (take k old) xs, length-take-le k old (omega (arith, f .fits)), w .next));
+        long = ap length (w .bytes) ∙ length-sets old k xs;
+      }
+
   pub grown : (xs ys : List ℕ) {mid new : List ℕ} {r s : ℕ} → Grown old mid k xs r → Grown mid new r ys s → Grown old new k (xs ++ ys) s
   grown xs ys g h =
       record {
@@ -25,35 +40,35 @@ module _ {old : List ℕ} {k : ℕ} where
   pub within : (xs : List ℕ) {new : List ℕ} {r : ℕ} → k ≤ length old → Grown old new k xs r → r ≤ length new
   within xs {new} {r} h g = omega (arith, ap length (g .front), length-take r new, length-append (take k old) xs, length-take-le k old h, g .next)
 
-  -- a text that is not kept
-  pub dropped : (xs : List ℕ) {new : List ℕ} {r : ℕ} → k ≤ length old → Grown old new k xs r → Grown old new k [] k
-  dropped xs {new} {r} h g =
+  -- a text of which the first l bytes are kept, or nothing
+  pub kept : (l : ℕ) (xs : List ℕ) {new : List ℕ} {r : ℕ} → k ≤ length old → l ≤ length xs → Grown old new k xs r → Grown old new k (take l xs) (k + l)
+  kept l xs {new} {r} h s g =
       record {
-        next = sym (add-zero k);
+        next = omega (arith, length-take-le l xs s);
         front =
-            sym (take-take k r new (omega (arith, g .next)))
-            ∙ ap (take k) (g .front)
-            ∙ take-append-le k (take k old) xs (omega (arith, length-take-le k old h))
-            ∙ take-take k k old (omega arith)
-            ∙ sym (append-nil (take k old));
+            sym (take-take (k + l) r new (omega (arith, g .next)))
+            ∙ ap (take (k + l)) (g .front)
+            ∙ (rw (length-take-le k old h) at (take-append-add (take k old) xs l));
         long = g .long;
       }
+
+  pub dropped : (xs : List ℕ) {new : List ℕ} {r : ℕ} → k ≤ length old → Grown old new k xs r → Grown old new k [] k
+  dropped xs h g = rw (add-zero k) at (kept 0 xs h (omega arith) g)
 
   pub stored : (b : ℕ) → k < length old → Grown old (set old k b) k (b ∷ []) (k + 1)
   stored b h = record { next = refl; front = rw add-one (take-suc-set old k b h); long = length-set old k b }
 
--- a number below 100
-module _ {old : List ℕ} {k : ℕ} (n : ℕ) (h : n < 100) (f : k + 1 < length old) where
-  pub one-digit : n < 10 → Grown old (set (set old k (48 + n / 10)) k (48 + n % 10)) k (digits n) (k + 1)
-  one-digit l =
-      let e : n % 10 ≡ n = omega arith in
-      rw (digits-one n l, e)
-      (grown [] ((48 + n) ∷ []) (dropped _ (omega arith) (stored (48 + n / 10) (omega arith))) (stored (48 + n) (omega (arith, length-set old k (48 + n / 10)))))
+-- two bytes
+pub stored-two : {old : List ℕ} {k : ℕ} (a b : ℕ) → k + 2 ≤ length old → Grown old (set (set old k a) (k + 1) b) k (a ∷ b ∷ []) (k + 2)
+stored-two {old} {k} a b h =
+    let g : Grown old (set (set old k a) (k + 1) b) k (a ∷ b ∷ []) (k + 1 + 1) =
+    grown (a ∷ []) (b ∷ []) (stored a (omega arith)) (stored b (omega (arith, length-set old k a))) in
+    let e : k + 1 + 1 ≡ k + 2 = omega arith in
+    rw e at g
 
-  pub two-digits : 10 ≤ n → Grown old (set (set old k (48 + n / 10)) (k + 1) (48 + n % 10)) k (digits n) (k + 1 + 1)
-  two-digits l =
-      rw (digits-more n l, digits-one (n / 10) (omega arith))
-      (grown ((48 + n / 10) ∷ []) ((48 + n % 10) ∷ []) (stored (48 + n / 10) (omega arith)) (stored (48 + n % 10) (omega (arith, length-set old k (48 + n / 10)))))
+-- a word's text
+pub worded : {old new : List ℕ} {k r : ℕ} {xs : List ℕ} {w : ℕ} → Word xs w → Grown old new k (wordText w) r → Grown old new k xs r
+worded h g = rw (h .text) at g
 
 -- a number digit by digit: room for the digits before the last, and then the last
 module _ {old : List ℕ} {k : ℕ} (n : ℕ) (h : 10 ≤ n) (f : Room old k (digits n)) where

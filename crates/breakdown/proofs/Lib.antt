@@ -1,5 +1,6 @@
 pub mod Bytes
 pub mod Growing
+pub mod Table
 pub mod Reading
 pub mod Groups
 pub mod Pieces
@@ -9,5 +10,5 @@ pub mod PartByPart
 pub mod Tallied
 pub mod Modes
 pub mod StandardParts
-pub mod Buffered
+pub mod Added
 pub mod SnParts

@@ -21,10 +21,12 @@ use Rattle.rules.proofs.Steps.{drop-run}
 use Rattle.measures.specs.Scan.{paired, Ahead, FirstTokens}
 use Rattle.breakdown.specs.Behind.{Behind}
 use Rattle.breakdown.specs.Standard.{glue}
-use Rattle.breakdown.specs.Parts.{Tokens, TokensBehind, snOf}
+use Rattle.breakdown.specs.Parts.{Tokens, TokensBehind, PartWritten, snOf, standardFrom, standardPart}
 use Rattle.breakdown.specs.Runs.{runText}
 use Rattle.breakdown.specs.Forms.{textOf, openText, partText, Open, OpenNext, FirstRun, ActiveMeasures}
+use Rattle.breakdown.specs.declared.buffer.Left.{Left}
 use Rattle.breakdown.specs.declared.form.Form.{Form}
+use Rattle.breakdown.specs.declared.piece.Piece.{Piece}
 use Rattle.breakdown.specs.declared.run.Run.{Run}
 use Rattle.measures.specs.declared.scan.Taken.{Taken}
 use Rattle.breakdown.proofs.Measures.{lastClass, behind-front, behind-back, behind-any, last-paired, paired-length}
@@ -60,6 +62,24 @@ last-text f r o = split (f .sn) (λ e. rw e (sn-last (f .limit) (r .class) (r .l
     sn-last : (k c n : ℕ) (s : Bool) → c ≢ 0 → snOf k (token c n s ∷ []) ≡ word (run c n s)
     sn-last k zero n s h = absurd (h refl)
     sn-last k (suc c) n s h = rw (drop-run (token (suc c) n s) [] h) (append-nil _)
+
+-- ---- a part of a standard text, whose open piece is a run of class 1
+
+abbrev pieceRun : Piece → Run
+pieceRun p = record { class = 1; length = p .length; starred = p .starred }
+
+pub piece-part : (f : Form) (r : Run) (cs ns : List ℕ) {old out : List ℕ} {from : Left} {buf new : List ℕ} {to : Left} → f .sn ≡ false → (p : Piece)
+    → PartWritten (standardPart (f .signs) (f .limit) (r .length) (r .starred) cs ns) (standardFrom (f .signs) (f .limit) (p .length) (p .starred)) old out from buf new to × (p .length ≤ r .length + 4294967296 * length cs)
+    → PartWritten (partText f r cs ns) (openText f (pieceRun p)) old out from buf new to × OpenNext f r (length cs) (pieceRun p)
+piece-part f r cs ns e p w = (
+  record { done = w .0 .done; whole = λ more. rw e (w .0 .whole more); wrote = w .0 .wrote },
+  record { run = record { run = suc-ne-zero 0; piece = λ z. refl }; small = w .1 },
+)
+
+-- ---- no tokens
+
+pub none-short : (f : Form) → length (textOf f []) ≤ 11
+none-short f = split (f .sn) (λ e. rw e (omega arith)) (λ e. rw e (omega arith))
 
 -- ---- the last measure is a stream measure
 
@@ -255,3 +275,7 @@ module _ {cs ns : List ℕ} (t : Tokens cs ns) where
 
       pub tokens-text : textOf f (paired cs ns) ≡ partText f r backC backN []
       tokens-text = ap (textOf f) first-here ∙ g .text (paired backC backN) ∙ ap (openText f r) (sym (append-nil (paired backC backN)))
+
+      -- all but the last run or piece, and then that
+      pub tokens-all : (ds : List ℕ) {u : Run} → Open f u → ((us : List Token) → partText f r backC backN us ≡ ds ++ openText f u us) → textOf f (paired cs ns) ≡ ds ++ runText u
+      tokens-all ds {u} o w = tokens-text ∙ w [] ∙ ap (λ (l : List ℕ). ds ++ l) (last-text f u o)

@@ -9,12 +9,11 @@ use native.Mathlib.Nat.{suc-ne-zero}
 use native.Mathlib.Numerals.{add-one}
 use native.Mathlib.Omega.{arith}
 use lib.Dec.{eqb, ltb, leb}
-use lib.ListN.{length, take, drop, getD, set, length-append, length-map, length-set}
+use lib.ListN.{length, take, drop, getD, length-append, length-map}
 use borrow.Author.Tests.{ltb-true, leb-true, leb-false, lt-ltb, le-ltb}
 use Rattle.number.specs.Digits.{digits}
-use Rattle.number.specs.Place.{Room, Wrote}
+use Rattle.number.specs.Place.{Room}
 use Rattle.number.specs.Pushed.{DigitCount}
-use Rattle.number.proofs.Place.{still, room-first, wrote-length, wrote}
 use Rattle.number.proofs.Split.{split}
 use Rattle.rules.specs.Bytes.{bytes}
 use Rattle.rules.specs.Chart.{Token, token, class, len}
@@ -22,7 +21,7 @@ use Rattle.rules.specs.Reduced.{Item, run, item, signOf, joins, joinFrom, short
 use Rattle.rules.specs.Texts.{word, strung}
 use Rattle.rules.proofs.Steps.{drop-run, simple-run, short-long}
 use Rattle.measures.specs.Scan.{paired}
-use Rattle.breakdown.specs.Buffer.{Flushed, Grown}
+use Rattle.breakdown.specs.Buffer.{Added, Grown}
 use Rattle.breakdown.specs.Put.{byteText, Measured}
 use Rattle.breakdown.specs.Behind.{Behind, firstClass}
 use Rattle.breakdown.specs.Sn.{breakItem, breakTokens, shown}
@@ -31,8 +30,8 @@ use Rattle.breakdown.specs.SnParts.{ended, longBreak, joinClass, side, T
 use Rattle.breakdown.proofs.Bytes.{sign-item, sign-one}
 use Rattle.breakdown.proofs.Reading.{none-left, slices-next, run-behind}
 use Rattle.breakdown.proofs.Groups.{drop-append, after-run, after-join, after-apart, break-tokens, one-shows, short-shows, long-shows}
-use Rattle.breakdown.proofs.Growing.{grown, dropped, stored}
-use Rattle.breakdown.proofs.Buffered.{Buffered, buffered-starts, buffered-grows, buffered-room, buffered-flushed, buffered-ends}
+use Rattle.breakdown.proofs.Added.{goesOn, added-none, added-room, added, grown-room, grown-added, step-room, step}
+use Rattle.breakdown.specs.declared.buffer.Left.{Left}
 
 -- ---- a run first, so something is shown
 
@@ -135,9 +134,10 @@ module _ {cs ns : List ℕ} {i : ℕ} (a : TokenAt cs ns i) where
     second : drop (suc i) (paired cs ns) ≡ token (getD cs (suc i) 0) (getD ns (suc i) 0) false ∷ drop (suc (suc i)) (paired cs ns)
     second = slices-next cs ns (suc i) (a .long) (rw add-one at run-inside)
 
-    pub break-next : RunAt cs ns i (getD ns i 0) (getD cs (i + 1) 0) (getD ns (i + 1) 0) (i + 1 + 1)
+    pub break-next : RunAt cs ns i (getD ns i 0) (getD cs (i + 1) 0) (getD ns (i + 1) 0) (i + 2)
     break-next =
-        rw (add-one, add-one)
+        let two : i + 2 ≡ suc (suc i) = omega arith in
+        rw (add-one, two)
         (record {
           rest = rw (break-tokens (getD ns i 0) (left-behind .0)) (rw b at first ∙ ap {B = List Token} (λ ts. token 0 (getD ns i 0) false ∷ ts) second);
           run = λ e. (rw second at (left-behind .1)) .0 e .0 refl;
@@ -145,6 +145,10 @@ module _ {cs ns : List ℕ} {i : ℕ} (a : TokenAt cs ns i) where
           on = rw (break-tokens (getD ns i 0) (left-behind .0)) (omega arith);
           within = rw add-one at run-inside;
         })
+
+-- no run joins where there is no break
+pub adjacent : (k c : ℕ) {cs ns : List ℕ} {i g d n next : ℕ} → RunAt cs ns i g d n next → g ≡ 0 → d ≢ joinClass k c g
+adjacent k c a z e = a .run (e ∙ rw z refl)
 
 -- ---- a part, run by run
 
@@ -162,9 +166,6 @@ opened-starts k t h = record { whole = λ more. refl; run = h .run; behind = h .
 module _ {k : ℕ} {t : Token} {cs ns done : List ℕ} {u : Token} {i : ℕ} (o : Opened k t cs ns done u i) where
   pub opened-at : length cs ≡ length ns → i < length cs → TokenAt cs ns i
   opened-at l h = record { long = l; inside = h; earlier = class u; behind = o .behind }
-
-  pub opened-room : {out : List ℕ} {at : ℕ} → PartRoom (snPart k t cs ns) out at → Room out at done
-  opened-room r = room-first done _ (rw (o .whole (r .more)) at (r .room))
 
   pub opened-ends : length cs ≤ i → OpenRun t cs u
   opened-ends h = record { run = o .run; small = omega (arith, o .small, o .within) }
@@ -202,7 +203,7 @@ module _ {k : ℕ} {t : Token} {cs ns done : List ℕ} {u : Token} {i : ℕ} (o 
           within = a .within;
         }
 
--- ---- a run and a break over which it does not join, in the buffer
+-- ---- a run and a break over which it does not join
 
 run-item : (f : ℕ → Item) (c n : ℕ) (s : Bool) → c ≢ 0 → item f (token c n s) ≡ run c n s
 run-item f zero n s r = absurd (r refl)
@@ -235,37 +236,19 @@ module _ (k c n : ℕ) (s : Bool) (g : ℕ) (r : c ≢ 0) where
       let b = break-tokens g (omega arith) in
       rw (lt-ltb 1 g h, lt-ltb k g l, b) (rw b at (long-shows k c n s g r h l)))
 
--- a space, the byte b and a space behind a text: all three are kept, or the first
-abbrev with-three : List ℕ → ℕ → ℕ → List ℕ
-with-three l a b = set (set (set l a 32) (a + 1) b) (a + 1 + 1) 32
+  pub group-short : g ≤ k → ended k (token c n s ∷ longBreak k g) ≡ word (run c n s) ++ (32 ∷ [])
+  group-short l = rw (le-ltb k g l, and-false (ltb 1 g)) alone-text
 
-module _ {old mid : List ℕ} {p a : ℕ} (xs : List ℕ) (h : Grown old mid p xs a) (f : a + 3 ≤ length mid) (b : ℕ) where
-  with-space : Grown old (set mid a 32) p (xs ++ (32 ∷ [])) (a + 1)
-  with-space = grown xs (32 ∷ []) h (stored 32 (omega arith))
+  -- no break
+  pub adjacent-text : g ≡ 0 → word (run c n s) ++ (32 ∷ []) ≡ ended k (shown k (token c n s ∷ breakTokens g))
+  adjacent-text z = sym (ap (ended k) (else-shown (rw z refl)) ∙ group-short (omega (arith, z)))
 
-  two-more : Grown (set mid a 32) (with-three mid a b) (a + 1) (b ∷ 32 ∷ []) (a + 1 + 1 + 1)
-  two-more =
-      let l = length-set mid a 32 in
-      grown (b ∷ []) (32 ∷ []) (stored b (omega (arith, l))) (stored 32 (omega (arith, l, length-set (set mid a 32) (a + 1) b)))
+  pub group-long : 1 ≤ k → k < g → (b : ℕ) → byteText b ≡ word (signOf 32 g)
+      → ended k (token c n s ∷ longBreak k g) ≡ (word (run c n s) ++ (32 ∷ [])) ++ (b ∷ 32 ∷ [])
+  group-long o l b e =
+      rw (lt-ltb 1 g (omega arith), lt-ltb k g l, run-item (breakItem k) c n s r, sign-item k g (λ e. omega arith), sign-stored 32 g b e) refl
 
-  all-kept : Grown old (with-three mid a b) p (xs ++ (32 ∷ b ∷ 32 ∷ [])) (a + 1 + 1 + 1)
-  all-kept = rw append-assoc at (grown (xs ++ (32 ∷ [])) (b ∷ 32 ∷ []) with-space two-more)
-
-  first-kept : Grown old (with-three mid a b) p (xs ++ (32 ∷ [])) (a + 1)
-  first-kept =
-      rw append-nil at (grown (xs ++ (32 ∷ [])) [] with-space (dropped (b ∷ 32 ∷ []) (omega (arith, length-set mid a 32)) two-more))
-
--- a run and a long break, in the buffer
-module _ {old mid : List ℕ} {p a : ℕ} (k c n : ℕ) (s : Bool) (g b : ℕ) (r : c ≢ 0) (f : a + 3 ≤ length mid) (h : Grown old mid p (word (run c n s)) a) where
-  pub group-short : g ≤ k → Grown old (with-three mid a b) p (ended k (token c n s ∷ longBreak k g)) (a + 1)
-  group-short l = rw (le-ltb k g l, and-false (ltb 1 g), alone-text k c n s g r) (first-kept (word (run c n s)) h f b)
-
-  pub group-long : 1 ≤ k → k < g → byteText b ≡ word (signOf 32 g) → Grown old (with-three mid a b) p (ended k (token c n s ∷ longBreak k g)) (a + 1 + 1 + 1)
-  group-long o l e =
-      rw (lt-ltb 1 g (omega arith), lt-ltb k g l, run-item (breakItem k) c n s r, sign-item k g (λ e. omega arith), sign-stored 32 g b e)
-      (rw append-assoc (all-kept (word (run c n s)) h f b))
-
--- ---- a token in the buffer
+-- ---- a token
 
 pub token-text : (c n : ℕ) → (eqb c 0 && eqb n 1) ≡ false
     → ended 0 (dropOnes (token c n false ∷ [])) ≡ side 40 c ++ (digits n ++ (side 41 c ++ (32 ∷ [])))
@@ -276,62 +259,45 @@ pub token-none : (c n : ℕ) → (eqb c 0 && eqb n 1) ≡ true → ended 0 (drop
 token-none c n e = rw e
 
 -- no tokens
-pub none-written : (k : ℕ) (t : Token) (cs ns : List ℕ) {old : List ℕ} {at : ℕ} → TokensBehind (class t) cs ns → length cs ≡ 0
-    → PartWritten (snPart k t cs ns) (snOn k t) old old at at × OpenRun t cs t
-none-written k t cs ns b h =
+pub none-written : (k : ℕ) (t : Token) (cs ns : List ℕ) {buf out : List ℕ} {from : Left} → TokensBehind (class t) cs ns → length cs ≡ 0 → from .left ≤ 448
+    → PartWritten (snPart k t cs ns) (snOn k t) buf out from buf out from × OpenRun t cs t
+none-written k t cs ns b h l =
     let o = opened-starts k t b in
-    (record { done = []; whole = opened-whole o (omega arith); wrote = still }, opened-ends o (omega arith))
+    (record { done = []; whole = opened-whole o (omega arith); wrote = added-none l }, opened-ends o (omega arith))
 
 -- ---- a part is written, run by run
 
--- what is done of it stands in the lent slice, but for the buffer's first p bytes
-pub record Writing (k : ℕ) (t : Token) (cs ns old : List ℕ) (at : ℕ) (buf out : List ℕ) (u : Token) (place p i : ℕ) : Type 0 where
+pub record Writing (k : ℕ) (t : Token) (cs ns old out : List ℕ) (from : Left) (buf new : List ℕ) (u : Token) (to : Left) (i : ℕ) : Type 0 where
   pub done : List ℕ
   pub opened : Opened k t cs ns done u i
-  pub buffered : Buffered old out at place buf p done
-  pub few : p ≤ 448
+  pub wrote : Added old out from done buf new to
 
-pub writing-starts : (k : ℕ) (t : Token) {cs ns : List ℕ} (old : List ℕ) (at : ℕ) (buf : List ℕ)
-    → TokensBehind (class t) cs ns → Writing k t cs ns old at buf old t at 0 0
-writing-starts k t old at buf h =
-    record { done = []; opened = opened-starts k t h; buffered = buffered-starts buf 0; few = omega arith }
+pub writing-starts : (k : ℕ) (t : Token) {cs ns : List ℕ} (buf out : List ℕ) (from : Left)
+    → TokensBehind (class t) cs ns → from .left ≤ 448 → Writing k t cs ns buf out from buf out t from 0
+writing-starts k t buf out from h l = record { done = []; opened = opened-starts k t h; wrote = added-none l }
 
-module _ {k : ℕ} {t : Token} {cs ns old : List ℕ} {at : ℕ} {buf out : List ℕ} {u : Token} {place p i : ℕ}
-    (w : Writing k t cs ns old at buf out u place p i) where
-  pub writing-room : PartRoom (snPart k t cs ns) old at → Room out place (take p buf)
-  writing-room r = buffered-room (w .buffered) (opened-room (w .opened) r)
-
-  pub writing-long : {new : List ℕ} {r : ℕ} → Wrote out new place (take p buf) r → length new ≡ length old
-  writing-long g = wrote-length (w .done) [] (buffered-ends (w .buffered) g)
-
-  pub writing-ends : {new : List ℕ} {r : ℕ} → length cs ≤ i → Wrote out new place (take p buf) r
-      → PartWritten (snPart k t cs ns) (snOn k u) old new at r × OpenRun t cs u
-  writing-ends h g = (
-    record { done = w .done; whole = opened-whole (w .opened) h; wrote = buffered-ends (w .buffered) g },
-    opened-ends (w .opened) h,
-  )
+module _ {k : ℕ} {t : Token} {cs ns old out : List ℕ} {from : Left} {buf mid : List ℕ} {u : Token} {to : Left} {i : ℕ}
+    (w : Writing k t cs ns old out from buf mid u to i) where
+  pub writing-ends : length cs ≤ i → PartWritten (snPart k t cs ns) (snOn k u) old out from buf mid to × OpenRun t cs u
+  writing-ends h = (record { done = w .done; whole = opened-whole (w .opened) h; wrote = w .wrote }, opened-ends (w .opened) h)
 
   module _ {g d n next : ℕ} (a : RunAt cs ns i g d n next) where
     pub writing-joins : d ≡ joinClass k (class u) g → g < 4294967296 → n < 4294967296
-        → Writing k t cs ns old at buf out (token (class u) (len u + (g + n)) true) place p next
-    writing-joins e x y = record { done = w .done; opened = opened-joins (w .opened) a e x y; buffered = w .buffered; few = w .few }
+        → Writing k t cs ns old out from buf mid (token (class u) (len u + (g + n)) true) to next
+    writing-joins e x y = record { done = w .done; opened = opened-joins (w .opened) a e x y; wrote = w .wrote }
 
-    module _ (e : d ≢ joinClass k (class u) g) (x : n < 4294967296) {new : List ℕ} {q : ℕ}
-        (h : Grown buf new p (ended k (shown k (u ∷ breakTokens g))) q) where
-      grows : Buffered old out at place new q (w .done ++ ended k (shown k (u ∷ breakTokens g)))
-      grows = buffered-grows (w .buffered) (ended k (shown k (u ∷ breakTokens g))) h
+    module _ (e : d ≢ joinClass k (class u) g) (x : n < 4294967296) {new : List ℕ} {full : ℕ}
+        (h : Grown buf new (to .left) (ended k (shown k (u ∷ breakTokens g))) full) where
+      pub writing-room : PartRoom (snPart k t cs ns) old out from → Room mid (to .place) (take full new)
+      writing-room r = step-room (w .done) (w .wrote) _ h _ (rw (opened-next (w .opened) a e x .whole (r .more)) at (r .room))
 
-      pub writing-more : PartRoom (snPart k t cs ns) old at → Room out place (take q new)
-      writing-more r = buffered-room grows (opened-room (opened-next (w .opened) a e x) r)
-
-      pub writing-next : {last : List ℕ} {to left : ℕ} → Flushed out last place new q to left
-          → Writing k t cs ns old at new last (token d n false) to left next
+      pub writing-next : {last : List ℕ} {end : Left} → Added new mid (goesOn (to .place) full) [] new last end
+          → Writing k t cs ns old out from new last (token d n false) end next
       writing-next f =
           record {
             done = w .done ++ ended k (shown k (u ∷ breakTokens g));
             opened = opened-next (w .opened) a e x;
-            buffered = buffered-flushed grows f;
-            few = f .few;
+            wrote = step (w .done) (w .wrote) _ h f;
           }
 
 -- ---- with the limit 0 nothing joins: token by token
@@ -383,86 +349,86 @@ next-text t d n us more b =
 
 -- ---- a part is written, token by token
 
--- `front` and then the text of the tokens: `done`, and the text of those from place i on
-pub record Listing (front cs ns old : List ℕ) (at : ℕ) (buf out : List ℕ) (place p i : ℕ) : Type 0 where
+-- the text of the tokens: `done`, and the text of those from place i on
+pub record Listing (cs ns old out : List ℕ) (from : Left) (buf new : List ℕ) (to : Left) (i : ℕ) : Type 0 where
   pub done : List ℕ
-  pub whole : (more : List Token) → front ++ snOf 0 (paired cs ns ++ more) ≡ done ++ snOf 0 (drop i (paired cs ns) ++ more)
+  pub whole : (more : List Token) → snOf 0 (paired cs ns ++ more) ≡ done ++ snOf 0 (drop i (paired cs ns) ++ more)
   pub earlier : ℕ
   pub behind : Behind earlier (drop i (paired cs ns))
-  pub buffered : Buffered old out at place buf p done
-  pub few : p ≤ 448
+  pub wrote : Added old out from done buf new to
 
-pub listing-starts : (cs ns old : List ℕ) (at : ℕ) (buf : List ℕ) (p c : ℕ) → Behind c (paired cs ns) → p ≤ 448
-    → Listing (take p buf) cs ns old at buf old at p 0
-listing-starts cs ns old at buf p c b h =
-    record { done = take p buf; whole = λ more. refl; earlier = c; behind = b; buffered = buffered-starts buf p; few = h }
+pub listing-starts : (cs ns buf out : List ℕ) (from : Left) (c : ℕ) → Behind c (paired cs ns) → from .left ≤ 448 → Listing cs ns buf out from buf out from 0
+listing-starts cs ns buf out from c b l = record { done = []; whole = λ more. refl; earlier = c; behind = b; wrote = added-none l }
 
-module _ {front cs ns old : List ℕ} {at : ℕ} {buf out : List ℕ} {place p i : ℕ} (w : Listing front cs ns old at buf out place p i) where
-  pub listing-room : PartRoom (λ more. front ++ snOf 0 (paired cs ns ++ more)) old at → Room out place (take p buf)
-  listing-room r = buffered-room (w .buffered) (room-first (w .done) _ (rw (w .whole (r .more)) at (r .room)))
+module _ {cs ns old out : List ℕ} {from : Left} {buf mid : List ℕ} {to : Left} {i : ℕ} (w : Listing cs ns old out from buf mid to i)
+    (l : length cs ≡ length ns) (h : i + 1 < length cs) {new : List ℕ} {full : ℕ}
+    (g : Grown buf new (to .left) (ended 0 (dropOnes (token (getD cs i 0) (getD ns i 0) false ∷ []))) full) where
+  here : drop i (paired cs ns) ≡ token (getD cs i 0) (getD ns i 0) false ∷ drop (suc i) (paired cs ns)
+  here = slices-next cs ns i l (omega arith)
 
-  pub listing-long : {new : List ℕ} {r : ℕ} → Wrote out new place (take p buf) r → length new ≡ length old
-  listing-long g = wrote-length (w .done) [] (buffered-ends (w .buffered) g)
+  there : drop (suc i) (paired cs ns) ≡ token (getD cs (suc i) 0) (getD ns (suc i) 0) false ∷ drop (suc (suc i)) (paired cs ns)
+  there = slices-next cs ns (suc i) l (omega arith)
 
-  module _ (l : length cs ≡ length ns) where
-    -- the token at i is the last
-    module _ (t : Token) (m : ℕ) (e : i ≡ m) (h : suc m ≡ length cs)
-        (f : (more : List Token) → snPart 0 t cs ns more ≡ front ++ snOf 0 (paired cs ns ++ more)) (s : getD ns m 0 < 4294967296) where
-      last-token : drop i (paired cs ns) ≡ token (getD cs m 0) (getD ns m 0) false ∷ []
-      last-token = rw e (slices-next cs ns m l (omega arith) ∙ rw (none-left cs ns (suc m) (omega arith)))
+  on : Behind (getD cs i 0) (drop (suc i) (paired cs ns))
+  on = rw here at (w .behind) .1
 
-      pub listing-ends : {new : List ℕ} {r : ℕ} → Wrote out new place (take p buf) r
-          → PartWritten (snPart 0 t cs ns) (snOn 0 (token (getD cs m 0) (getD ns m 0) false)) old new at r × OpenRun t cs (token (getD cs m 0) (getD ns m 0) false)
-      listing-ends g = (
-        record { done = w .done; whole = λ more. f more ∙ w .whole more ∙ rw last-token; wrote = buffered-ends (w .buffered) g },
-        record { run = rw last-token at (w .behind) .1; small = omega arith },
-      )
+  abbrev chunk : List ℕ
+  chunk = ended 0 (dropOnes (token (getD cs i 0) (getD ns i 0) false ∷ []))
 
-    -- one more follows
-    module _ (h : i + 1 < length cs) {new : List ℕ} {q : ℕ}
-        (g : Grown buf new p (ended 0 (dropOnes (token (getD cs i 0) (getD ns i 0) false ∷ []))) q) where
-      here : drop i (paired cs ns) ≡ token (getD cs i 0) (getD ns i 0) false ∷ drop (suc i) (paired cs ns)
-      here = slices-next cs ns i l (omega arith)
+  on-whole : (more : List Token) → snOf 0 (paired cs ns ++ more) ≡ (w .done ++ chunk) ++ snOf 0 (drop (suc i) (paired cs ns) ++ more)
+  on-whole more =
+      w .whole more
+      ∙ rw (here, there)
+      (ap {B = List ℕ} (λ l. w .done ++ l) (next-text (token (getD cs i 0) (getD ns i 0) false) (getD cs (suc i) 0) (getD ns (suc i) 0) (drop (suc (suc i)) (paired cs ns)) more (rw there at on))
+      ∙ sym (append-assoc (w .done) chunk _))
 
-      there : drop (suc i) (paired cs ns) ≡ token (getD cs (suc i) 0) (getD ns (suc i) 0) false ∷ drop (suc (suc i)) (paired cs ns)
-      there = slices-next cs ns (suc i) l (omega arith)
+  pub listing-room : PartRoom (λ more. snOf 0 (paired cs ns ++ more)) old out from → Room mid (to .place) (take full new)
+  listing-room r = step-room (w .done) (w .wrote) chunk g _ (rw (on-whole (r .more)) at (r .room))
 
-      on : Behind (getD cs i 0) (drop (suc i) (paired cs ns))
-      on = rw here at (w .behind) .1
-
-      abbrev chunk : List ℕ
-      chunk = ended 0 (dropOnes (token (getD cs i 0) (getD ns i 0) false ∷ []))
-
-      on-whole : (more : List Token) → front ++ snOf 0 (paired cs ns ++ more) ≡ (w .done ++ chunk) ++ snOf 0 (drop (suc i) (paired cs ns) ++ more)
-      on-whole more =
-          w .whole more
-          ∙ rw (here, there)
-          (ap {B = List ℕ} (λ l. w .done ++ l) (next-text (token (getD cs i 0) (getD ns i 0) false) (getD cs (suc i) 0) (getD ns (suc i) 0) (drop (suc (suc i)) (paired cs ns)) more (rw there at on))
-          ∙ sym (append-assoc (w .done) chunk _))
-
-      pub listing-more : PartRoom (λ more. front ++ snOf 0 (paired cs ns ++ more)) old at → Room out place (take q new)
-      listing-more r = buffered-room (buffered-grows (w .buffered) chunk g) (room-first (w .done ++ chunk) _ (rw (on-whole (r .more)) at (r .room)))
-
-      pub listing-next : {last : List ℕ} {to left : ℕ} → Flushed out last place new q to left → Listing front cs ns old at new last to left (i + 1)
-      listing-next f =
-          rw add-one
-          (record {
-            done = w .done ++ chunk;
-            whole = on-whole;
-            earlier = getD cs i 0;
-            behind = on;
-            buffered = buffered-flushed (buffered-grows (w .buffered) chunk g) f;
-            few = f .few;
-          })
+  pub listing-next : {last : List ℕ} {end : Left} → Added new mid (goesOn (to .place) full) [] new last end → Listing cs ns old out from new last end (i + 1)
+  listing-next f =
+      rw add-one
+      (record {
+        done = w .done ++ chunk;
+        whole = on-whole;
+        earlier = getD cs i 0;
+        behind = on;
+        wrote = step (w .done) (w .wrote) chunk g f;
+      })
 
 -- the open run before them
-module _ (c n : ℕ) (s : Bool) {cs ns : List ℕ} (b : TokensBehind c cs ns) (h : length cs ≢ 0) where
-  pub first-text : (more : List Token) → snPart 0 (token c n s) cs ns more ≡ (word (run c n s) ++ (32 ∷ [])) ++ snOf 0 (paired cs ns ++ more)
+module _ (c n : ℕ) (s : Bool) {cs ns : List ℕ} (b : TokensBehind c cs ns) (h : length cs ≢ 0) {buf new : List ℕ} {k full : ℕ}
+    (g : Grown buf new k (word (run c n s) ++ (32 ∷ [])) full) where
+  abbrev front : List ℕ
+  front = word (run c n s) ++ (32 ∷ [])
+
+  first-text : (more : List Token) → snPart 0 (token c n s) cs ns more ≡ front ++ snOf 0 (paired cs ns ++ more)
   first-text more =
       let e : paired cs ns ≡ token (getD cs 0 0) (getD ns 0 0) false ∷ drop 1 (paired cs ns) = slices-next cs ns 0 (b .long) (omega arith) in
       rw e
       (next-text (token c n s) (getD cs 0 0) (getD ns 0 0) (drop 1 (paired cs ns)) more (rw e at (b .behind))
       ∙ rw (drop-run (token c n s) [] (b .run), alone-text 0 c n s 0 (b .run)))
+
+  pub first-room : {out : List ℕ} {place : ℕ} → PartRoom (snPart 0 (token c n s) cs ns) buf out (goesOn place k) → Room out place (take full new)
+  first-room r = grown-room front g _ (rw (first-text (r .more)) at (r .room))
+
+  module _ {out last : List ℕ} {place : ℕ} {to : Left} (f : Added new out (goesOn place full) [] new last to) where
+    pub others-room : PartRoom (snPart 0 (token c n s) cs ns) buf out (goesOn place k) → PartRoom (λ more. snOf 0 (paired cs ns ++ more)) new last to
+    others-room r = record { more = r .more; room = added-room front (grown-added front g f) _ (rw (first-text (r .more)) at (r .room)) }
+
+    -- the token at m is the last
+    pub listing-ends : {buf' new' : List ℕ} {to' : Left} {i : ℕ} → Listing cs ns new last to buf' new' to' i → (m : ℕ) → i ≡ m → suc m ≡ length cs → getD ns m 0 < 4294967296
+        → PartWritten (snPart 0 (token c n s) cs ns) (snOn 0 (token (getD cs m 0) (getD ns m 0) false)) buf out (goesOn place k) buf' new' to'
+        × OpenRun (token c n s) cs (token (getD cs m 0) (getD ns m 0) false)
+    listing-ends {i = i} w m e l x =
+        let last : drop i (paired cs ns) ≡ token (getD cs m 0) (getD ns m 0) false ∷ [] = rw e (slices-next cs ns m (b .long) (omega arith) ∙ rw (none-left cs ns (suc m) (omega arith))) in (
+          record {
+            done = front ++ w .done;
+            whole = λ more. first-text more ∙ ap (λ (l : List ℕ). front ++ l) (w .whole more) ∙ sym (append-assoc front (w .done) _) ∙ rw last;
+            wrote = added front (grown-added front g f) (w .done) (w .wrote);
+          },
+          record { run = rw last at (w .behind) .1; small = omega arith },
+        )
 
 -- ---- a part is measured, run by run
 

@@ -1,4 +1,4 @@
--- Standard texts part by part: one turn over a token, the pieces that are done, a part written and measured.
+-- Standard texts part by part: a step over one token or some, the pieces that are done, a part written and measured.
 -- Assumes nothing.
 use Prim.Native.Nat.{ℕ, zero, suc, _+_, _*_, _<_, _≤_}
 use mathlib.Core.Path.{_≡_, refl, sym, ap, _∙_}
@@ -8,11 +8,11 @@ use mathlib.Core.List.{List, [], _∷_, _++_, map, append-assoc, append-nil}
 use native.Mathlib.Numerals.{add-one}
 use native.Mathlib.Omega.{arith}
 use lib.Dec.{eqb, ltb}
-use lib.ListN.{length, drop, getD, set, length-append, length-set}
+use lib.ListN.{length, drop, take, getD, set, length-append, length-set}
 use lib.Seq.{getD-set-same, getD-set-other}
-use borrow.Author.Tests.{eqb-true, eqb-false, ltb-true, ltb-false, le-ltb}
-use Rattle.number.specs.Place.{Room, Wrote}
-use Rattle.number.proofs.Place.{still, room-first, room-next, wrote, wrote-length}
+use borrow.Author.Tests.{eqb-true, eqb-false, ltb-true, ltb-false, lt-ltb, le-ltb, ne-eqb}
+use Rattle.number.specs.Place.{Room}
+use Rattle.number.proofs.Place.{room-first}
 use Rattle.number.proofs.Split.{split}
 use Rattle.rules.specs.Chart.{Token, token}
 use Rattle.rules.specs.Reduced.{item}
@@ -20,9 +20,12 @@ use Rattle.rules.specs.Texts.{part, strung}
 use Rattle.measures.specs.Scan.{paired}
 use Rattle.breakdown.specs.Put.{Measured}
 use Rattle.breakdown.specs.Behind.{Behind}
+use Rattle.breakdown.specs.Buffer.{Added, Grown}
 use Rattle.breakdown.specs.Standard.{gapItem}
 use Rattle.breakdown.specs.Parts.{PartMeasured, PartRoom, PartWritten, TokensBehind, standardFrom, standardPart}
 use Rattle.breakdown.specs.Filled.{doneText, doneTexts, Long, Standing, Filled}
+use Rattle.breakdown.specs.declared.buffer.Left.{Left}
+use Rattle.breakdown.proofs.Added.{goesOn, added-none, added-room, added, grown-added}
 use Rattle.breakdown.proofs.Pieces.{after-run, after-over, after-apart, none-before}
 use Rattle.breakdown.proofs.Reading.{none-left, slices-next}
 
@@ -74,6 +77,22 @@ module _ {cs ns : List ℕ} {i : ℕ} (p : Standing cs ns i) (l : i < length cs)
   standing-next =
       record { long = p .long; few = p .few; within = omega arith; last = getD cs i 0; behind = (rw token-next at (p .behind)) .1 }
 
+-- ---- a step: from place i, where a piece of n measures and star s is open, up to `next`, where one of m and t is, xs is done
+
+pub record Step (b : Bool) (k : ℕ) (cs ns : List ℕ) (i n : ℕ) (s : Bool) (xs : List ℕ) (next m : ℕ) (t : Bool) : Type 0 where
+  pub whole : (more : List Token) → standardFrom b k n s (drop i (paired cs ns) ++ more) ≡ xs ++ standardFrom b k m t (drop next (paired cs ns) ++ more)
+  pub standing : Standing cs ns next
+  pub small : m + 4294967296 * i ≤ n + 4294967296 * next
+
+pub filled-step : {cs ns : List ℕ} {k i n : ℕ} {s : Bool} {next m : ℕ} {t : Bool} {count : ℕ} {ls : List ℕ} {ts : List Bool} {gs : List ℕ} (b : Bool)
+    → Filled cs ns k i n s next m t count ls ts gs → Step b k cs ns i n s (doneTexts b count ls ts gs) next m t
+filled-step b f = record { whole = f .whole b; standing = f .standing; small = f .small }
+
+-- a piece grows by less than 2³²
+turn-small : (b : Bool) (n g : ℕ) → g < 4294967296 → cond b 0 (n + g) ≤ n + 4294967296
+turn-small true n g h = omega arith
+turn-small false n g h = omega arith
+
 -- ---- one turn: the token at place i, behind an open piece of n measures and star s
 
 -- the gap of a token of class c and length g: none has 0, and is never shown
@@ -112,14 +131,29 @@ module _ {cs ns : List ℕ} {i : ℕ} (p : Standing cs ns i) (l : i < length cs)
         (λ h. rw (z, h) (on-gap (eqb-true _ _ z) (ltb-false _ _ h))))
         (λ z. rw (z, le-ltb k 0 (omega arith)) (run-text b k n s c g (left ++ more) (eqb-false _ _ z)))
 
-    pub turn-text : {wide : ℕ} → wide ≡ gapOf c g → standardFrom b k n s (drop i (paired cs ns) ++ more)
-        ≡ cond (ltb k wide) (doneText b n s g) [] ++ standardFrom b k (cond (ltb k wide) 0 (n + g)) (cond (ltb k wide) false (eqb c 0 || s)) (left ++ more)
-    turn-text w = rw (w, token-next p l) picked
+  pub turn-step : {wide m : ℕ} {t : Bool} (b : Bool) → wide ≡ gapOf c g → g < 4294967296 → m ≡ cond (ltb k wide) 0 (n + g) → t ≡ cond (ltb k wide) false (eqb c 0 || s)
+      → Step b k cs ns i n s (cond (ltb k wide) (doneText b n s g) []) (i + 1) m t
+  turn-step {wide} b w h e u =
+      record {
+        whole = λ more. rw (e, u, w, token-next p l) (picked b more);
+        standing = standing-next p l;
+        small = omega (arith, e, turn-small (ltb k wide) n g h);
+      }
 
--- a piece grows by less than 2³²
-turn-small : (b : Bool) (n g : ℕ) → g < 4294967296 → cond b 0 (n + g) ≤ n + 4294967296
-turn-small true n g h = omega arith
-turn-small false n g h = omega arith
+  -- the same, by cases
+  module _ (b : Bool) (h : g < 4294967296) where
+    pub run-step : c ≢ 0 → Step b k cs ns i n s [] (i + 1) (n + g) s
+    run-step r =
+        let z : ltb k 0 ≡ false = le-ltb k 0 (omega arith) in
+        let e : eqb c 0 ≡ false = ne-eqb c 0 r in
+        rw z at (turn-step {wide = 0} {m = n + g} {t = s} b (rw e refl) h (rw z refl) (rw (z, e) refl))
+
+    module _ (e : c ≡ 0) where
+      pub over-step : g ≤ k → Step b k cs ns i n s [] (i + 1) (n + g) true
+      over-step o = let z : ltb k g ≡ false = le-ltb k g o in rw z at (turn-step {wide = g} {m = n + g} {t = true} b (rw e refl) h (rw z refl) (rw (z, e) refl))
+
+      pub apart-step : k < g → Step b k cs ns i n s (doneText b n s g) (i + 1) 0 false
+      apart-step o = let z : ltb k g ≡ true = lt-ltb k g o in rw z at (turn-step {wide = g} {m = 0} {t = false} b (rw e refl) h (rw z refl) (rw z refl))
 
 turn-few : (b : Bool) (n : ℕ) → cond b (n + 1) n ≤ n + 1
 turn-few true n = omega arith
@@ -145,7 +179,7 @@ pub long-still : {ls : List ℕ} {ts : List Bool} {gs : List ℕ} (i n : ℕ) (t
 long-still {ls} {ts} {gs} i n t g h =
     record { lengths = length-set ls i n ∙ h .lengths; stars = length-set ts i t ∙ h .stars; gaps = length-set gs i g ∙ h .gaps }
 
--- room for the first pieces where there is room for more
+-- the first pieces have no more bytes than all
 done-more : (b : Bool) (ls : List ℕ) (ts : List Bool) (gs : List ℕ) (i n : ℕ) → i ≤ n → length (doneTexts b i ls ts gs) ≤ length (doneTexts b n ls ts gs)
 done-more b ls ts gs i zero h = let e : i ≡ 0 = omega arith in rw e (omega arith)
 done-more b ls ts gs i (suc n) h =
@@ -153,8 +187,21 @@ done-more b ls ts gs i (suc n) h =
     (λ e. rw (eqb-true i (suc n) e) (omega arith))
     (λ e. rw length-append (omega (arith, done-more b ls ts gs i n (omega (arith, eqb-false i (suc n) e)))))
 
-pub done-room : {old : List ℕ} {at : ℕ} (b : Bool) (ls : List ℕ) (ts : List Bool) (gs : List ℕ) (i n : ℕ) → i ≤ n → Room old at (doneTexts b n ls ts gs) → Room old at (doneTexts b i ls ts gs)
-done-room b ls ts gs i n l h = record { fits = omega (arith, h .fits, done-more b ls ts gs i n l) }
+-- one piece more, which grew in the buffer
+module _ (b : Bool) (ls : List ℕ) (ts : List Bool) (gs : List ℕ) (i : ℕ) {old out : List ℕ} {from : Left} {buf mid : List ℕ} {to : Left}
+    (a : Added old out from (doneTexts b i ls ts gs) buf mid to) where
+  abbrev next : List ℕ
+  next = doneText b (getD ls i 0) (getD ts i false) (getD gs i 0)
+
+  pub done-room : {n : ℕ} → i < n → Room out (from .place) (take (from .left) old ++ doneTexts b n ls ts gs) → Room mid (to .place) (take (to .left) buf ++ next)
+  done-room {n} l h =
+      let zs = take (from .left) old in
+      let most = done-more b ls ts gs (suc i) n l in
+      added-room _ a next (record { fits = omega (arith, h .fits, length-append zs (doneTexts b n ls ts gs), length-append zs (doneTexts b (suc i) ls ts gs), most) })
+
+  pub done-step : {new last : List ℕ} {full : ℕ} {end : Left} → Grown buf new (to .left) next full → Added new mid (goesOn (to .place) full) [] new last end
+      → Added old out from (doneTexts b (i + 1) ls ts gs) new last end
+  done-step g f = rw add-one (added _ a next (grown-added next g f))
 
 -- ---- the loop of `fill`
 
@@ -169,42 +216,43 @@ module _ {cs ns : List ℕ} {k i n : ℕ} {s : Bool} {j m : ℕ} {t : Bool} {cou
       → next ≡ cond (ltb k wide) (count + 1) count
       → Filled cs ns k i n s (j + 1) r u next (set ls count m) (set ts count t) (set gs count (getD ns j 0))
   turned {wide} {r} {u} {next} w a b d =
-      let g = getD ns j 0 in
       let shown = ltb k wide in
+      let z : (f : Bool) → Step f k cs ns j m t (cond shown (doneText f m t (getD ns j 0)) []) (j + 1) r u = λ f. turn-step (p .standing) l k m t f w fits a b in
       record {
         whole = λ f more. p .whole f more
-            ∙ rw (turn-text (p .standing) l k m t f more w, a, b, d, one-more f ls ts gs count m t g shown long room)
+            ∙ rw (z f .whole more, d, one-more f ls ts gs count m t (getD ns j 0) shown long room)
             (sym (append-assoc (doneTexts f count ls ts gs) _ _));
-        standing = standing-next (p .standing) l;
+        standing = z false .standing;
         few = omega (arith, p .few, d, turn-few shown count);
-        small = omega (arith, p .small, a, turn-small shown m g fits);
+        small = omega (arith, p .small, z false .small);
       }
 
--- ---- a part: `out` up to `place` has the text of the tokens before place i, behind which a piece of m measures and star t is open
+-- ---- a part: the text of the tokens before place i was added, behind which a piece of m measures and star t is open
 
-module _ (b : Bool) (k n : ℕ) (s : Bool) (cs ns old : List ℕ) (at : ℕ) where
-  pub record Parted (out : List ℕ) (place i m : ℕ) (t : Bool) : Type 0 where
+module _ (b : Bool) (k n : ℕ) (s : Bool) (cs ns old out : List ℕ) (from : Left) where
+  pub record Parted (buf new : List ℕ) (to : Left) (i m : ℕ) (t : Bool) : Type 0 where
     pub standing : Standing cs ns i
     pub small : m ≤ n + 4294967296 * i
-    pub written : PartWritten (standardPart b k n s cs ns) (λ more. standardFrom b k m t (drop i (paired cs ns) ++ more)) old out at place
+    pub written : PartWritten (standardPart b k n s cs ns) (λ more. standardFrom b k m t (drop i (paired cs ns) ++ more)) old out from buf new to
 
-  pub part-starts : TokensBehind 1 cs ns → Parted old at 0 n s
-  part-starts h =
+  pub part-starts : TokensBehind 1 cs ns → from .left ≤ 448 → Parted old out from 0 n s
+  part-starts h f =
       record {
         standing = standing-first h;
         small = omega arith;
-        written = record { done = []; whole = λ more. refl; wrote = still };
+        written = record { done = []; whole = λ more. refl; wrote = added-none f };
       }
 
-  module _ {out : List ℕ} {place i m : ℕ} {t : Bool} (p : Parted out place i m t) where
-    module _ {next r : ℕ} {u : Bool} {count : ℕ} {ls : List ℕ} {ts : List Bool} {gs : List ℕ} (f : Filled cs ns k i m t next r u count ls ts gs) where
-      pub part-room : PartRoom (standardPart b k n s cs ns) old at → Room out place (doneTexts b count ls ts gs)
+  module _ {buf new : List ℕ} {to : Left} {i m : ℕ} {t : Bool} (p : Parted buf new to i m t) where
+    module _ {xs : List ℕ} {next r : ℕ} {u : Bool} (f : Step b k cs ns i m t xs next r u) where
+      pub part-room : PartRoom (standardPart b k n s cs ns) old out from → Room new (to .place) (take (to .left) buf ++ xs)
       part-room h =
           let more = h .more in
           let w = p .written in
-          room-first _ _ (room-next (w .done) _ (w .wrote) (rw (w .whole more, f .whole b more) at (h .room)))
+          let rest = standardFrom b k r u (drop next (paired cs ns) ++ more) in
+          room-first _ rest (rw (append-assoc (take (to .left) buf) xs rest) (added-room (w .done) (w .wrote) _ (rw (w .whole more, f .whole more) at (h .room))))
 
-      pub part-step : {new : List ℕ} {q : ℕ} → Wrote out new place (doneTexts b count ls ts gs) q → Parted new q next r u
+      pub part-step : {buf' new' : List ℕ} {to' : Left} → Added buf new to xs buf' new' to' → Parted buf' new' to' next r u
       part-step h =
           let w = p .written in
           record {
@@ -212,19 +260,16 @@ module _ (b : Bool) (k n : ℕ) (s : Bool) (cs ns old : List ℕ) (at : ℕ) whe
             small = omega (arith, p .small, f .small);
             written =
                 record {
-                  done = w .done ++ doneTexts b count ls ts gs;
-                  whole = λ more. w .whole more ∙ rw (f .whole b more) (sym (append-assoc (w .done) _ _));
-                  wrote = wrote (w .done) _ (w .wrote) h;
+                  done = w .done ++ xs;
+                  whole = λ more. w .whole more ∙ rw (f .whole more) (sym (append-assoc (w .done) _ _));
+                  wrote = added (w .done) (w .wrote) xs h;
                 };
           }
 
-    pub part-end : length cs ≤ i → PartWritten (standardPart b k n s cs ns) (standardFrom b k m t) old out at place × (m ≤ n + 4294967296 * length cs)
+    pub part-end : length cs ≤ i → PartWritten (standardPart b k n s cs ns) (standardFrom b k m t) old out from buf new to × (m ≤ n + 4294967296 * length cs)
     part-end h =
         let w = p .written in
         (record { done = w .done; whole = λ more. w .whole more ∙ rw (none-left cs ns i h); wrote = w .wrote }, omega (arith, p .small, p .standing .within))
-
-    pub part-long : length out ≡ length old
-    part-long = wrote-length _ [] (p .written .wrote)
 
 -- ---- a part measured: the text of the tokens before place i has `total` bytes
 
@@ -247,14 +292,14 @@ module _ (b : Bool) (k n : ℕ) (s : Bool) (cs ns : List ℕ) where
         → d ≡ cond (ltb k wide) x 0 → r ≡ cond (ltb k wide) 0 (m + getD ns i 0)
         → u ≡ cond (ltb k wide) false (eqb (getD cs i 0) 0 || t) → Counting (total + d) (i + 1) r u
     counting-turn {wide} {x} {d} w l f h a e v =
-        let g = getD ns i 0 in
-        let shown = ltb k wide in
-        let z = chosen shown (doneText b m t g) x h in
+        let xs = cond (ltb k wide) (doneText b m t (getD ns i 0)) [] in
+        let z = chosen (ltb k wide) (doneText b m t (getD ns i 0)) x h in
+        let y = turn-step (p .standing) l k m t b w f e v in
         record {
-          standing = standing-next (p .standing) l;
-          small = omega (arith, p .small, e, turn-small shown m g f);
+          standing = y .standing;
+          small = omega (arith, p .small, y .small);
           short = omega (arith, p .short, a, z .1);
-          sum = λ more. p .sum more ∙ rw (turn-text (p .standing) l k m t b more w, ← e, ← v, length-append (cond shown (doneText b m t g) []) _) (omega (arith, a, z .0));
+          sum = λ more. p .sum more ∙ rw (y .whole more, length-append xs _) (omega (arith, a, z .0));
         }
 
     pub counting-end : length cs ≤ i → PartMeasured (standardPart b k n s cs ns) (standardFrom b k m t) (47 * length cs) total × (m ≤ n + 4294967296 * length cs)

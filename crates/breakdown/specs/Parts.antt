@@ -6,16 +6,18 @@ use mathlib.Core.Path.{_≡_}
 use mathlib.Core.Logic.{_≢_}
 use mathlib.Core.Bool.{Bool}
 use mathlib.Core.List.{List, [], _∷_, _++_, map}
-use lib.ListN.{length}
-use Rattle.number.specs.Place.{Room, Wrote}
+use lib.ListN.{length, take}
+use Rattle.number.specs.Place.{Room}
 use Rattle.rules.specs.Bytes.{bytes}
 use Rattle.rules.specs.Chart.{Token, token, class, len}
 use Rattle.rules.specs.Reduced.{Item, item, join}
 use Rattle.rules.specs.Texts.{word, part, strung}
 use Rattle.measures.specs.Scan.{paired}
 use Rattle.breakdown.specs.Behind.{Behind, Alternates}
+use Rattle.breakdown.specs.Buffer.{Added}
 use Rattle.breakdown.specs.Sn.{snAt}
 use Rattle.breakdown.specs.Standard.{glue, merged, gapItem}
+use Rattle.breakdown.specs.declared.buffer.Left.{Left}
 
 -- the tokens of a chart of the domain
 pub record Tokens (cs ns : List ℕ) : Type 0 where
@@ -43,16 +45,16 @@ snOf k ts = spaced (snAt k ts)
 abbrev pub standardFrom : Bool → ℕ → ℕ → Bool → List Token → List ℕ
 standardFrom b k n s ts = strung part (map (item (gapItem b)) (join k (glue (token 1 n s) (merged ts))))
 
--- `textOf` says the text by what follows this part: room for it, whatever that is
-pub record PartRoom (textOf : List Token → List ℕ) (out : List ℕ) (at : ℕ) : Type 0 where
+-- `textOf` says the text by what follows this part: room for what stands in the buffer and for it, whatever follows
+pub record PartRoom (textOf : List Token → List ℕ) (buf out : List ℕ) (from : Left) : Type 0 where
   pub more : List Token
-  pub room : Room out at (textOf more)
+  pub room : Room out (from .place) (take (from .left) buf ++ textOf more)
 
 -- the part is written, and the text goes on as `onOf` says
-pub record PartWritten (textOf onOf : List Token → List ℕ) (old new : List ℕ) (at place : ℕ) : Type 0 where
+pub record PartWritten (textOf onOf : List Token → List ℕ) (old out : List ℕ) (from : Left) (buf new : List ℕ) (to : Left) : Type 0 where
   pub done : List ℕ
   pub whole : (more : List Token) → textOf more ≡ done ++ onOf more
-  pub wrote : Wrote old new at done place
+  pub wrote : Added old out from done buf new to
 
 -- the part has r bytes, and the text goes on as `onOf` says; `most` bytes at most
 pub record PartMeasured (textOf onOf : List Token → List ℕ) (most r : ℕ) : Type 0 where

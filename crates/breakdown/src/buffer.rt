@@ -1,14 +1,16 @@
 // A text grows in a buffer of the caller's own: what stands in it from the next place on is not kept, so that a byte which may be missing is
-// stored without a branch. The buffer is copied to the lent slice when it is nearly full, and at the end of a part.
+// stored without a branch. The buffer is copied to the lent slice when it is nearly full; what is left in it goes on to the next part or text.
 use crate::put::put_bytes;
 use number::digit_count;
-ghost use Prim.Native.Nat.{_<_, _+_, _≤_};
+ghost use Prim.Native.Nat.{_<_, _+_, _/_, _≤_};
+ghost use mathlib.Core.List.{[]};
 ghost use lib.ListN.{length, take};
 ghost use Rattle.number.specs.Digits.{digits};
 ghost use Rattle.number.specs.Place.{Room, Wrote};
 ghost use Rattle.number.specs.Pushed.{DigitCount};
 ghost use Rattle.breakdown.specs.Put.{byteText};
-ghost use Rattle.breakdown.specs.Buffer.{Flushed, Grown};
+ghost use Rattle.breakdown.specs.Buffer.{Added, Grown};
+ghost use Rattle.breakdown.specs.Words.{Words, wordText};
 
 // The byte `b`, or nothing if it is 0.
 pub fn add_byte(buf: &mut [u8], k: usize, b: u8) -> usize
@@ -33,18 +35,25 @@ fn add_long(buf: &mut [u8], k: usize, n: u64) -> usize
     last + 1
 }
 
-// `n` in base ten. Numbers below 100, the most frequent ones, need no branch on their length.
-pub fn add_number(buf: &mut [u8], k: usize, n: u64) -> usize
-    requires { ⌜ k + 20 ≤ length (now buf) ⌝ }
+// The text of a word.
+pub fn add_word(buf: &mut [u8], k: usize, w: u32) -> usize
+    requires { ⌜ (k + 2 ≤ length (now buf)) × (w / 65536 ≤ 2) ⌝ }
+    ensures { λ r. ⌜ Grown (now (buf .entry)) (now (buf .exit)) k (wordText w) r ⌝ }
+{
+    buf[k] = (w % 256) as u8;
+    buf[k + 1] = (w / 256 % 256) as u8;
+    k + (w / 65536) as usize
+}
+
+// `n` in base ten. Numbers below 100, the most frequent ones, stand in the table.
+pub fn add_number(buf: &mut [u8], k: usize, n: u64, words: &[u32; 115]) -> usize
+    requires { ⌜ (k + 20 ≤ length (now buf)) × Words (now words) ⌝ }
     ensures { λ r. ⌜ Grown (now (buf .entry)) (now (buf .exit)) k (digits n) r ⌝ }
 {
     if n >= 100 {
         return add_long(buf, k, n);
     }
-    buf[k] = (48 + n / 10) as u8;
-    let last = if n < 10 { k } else { k + 1 };
-    buf[last] = (48 + n % 10) as u8;
-    last + 1
+    add_word(buf, k, words[n as usize])
 }
 
 // How many digits `n` has.
@@ -65,22 +74,22 @@ pub fn put_buffer(out: &mut [u8], at: usize, buf: &[u8], k: usize) -> usize
     put_bytes(out, at, &buf[..k])
 }
 
-// What of the buffer is written: the place behind it, and how many bytes are left.
+// Where a text goes on: the next place of the slice, and how many bytes stand in the buffer for it.
 pub struct Left {
     pub place: usize,
     pub left: usize,
 }
 
 // The buffer is written once there may be no room in it for one more group or piece.
-pub fn flush(out: &mut [u8], at: usize, buf: &[u8], k: usize) -> Left
-    requires { ⌜ (k ≤ length (now buf)) × Room (now out) at (take k (now buf)) ⌝ }
-    ensures { λ r. ⌜ Flushed (now (out .entry)) (now (out .exit)) at (now (buf .entry)) k (r .place) (r .left) ⌝ }
+pub fn flush(buf: &[u8], out: &mut [u8], place: usize, left: usize) -> Left
+    requires { ⌜ (left ≤ length (now buf)) × Room (now out) place (take left (now buf)) ⌝ }
+    ensures { λ r. ⌜ Added (now (buf .entry)) (now (out .entry)) (record { place = place; left = left }) [] (now (buf .entry)) (now (out .exit)) r ⌝ }
 {
-    if k > 448 {
+    if left > 448 {
         return Left {
-            place: put_buffer(out, at, buf, k),
+            place: put_buffer(out, place, buf, left),
             left: 0,
         };
     }
-    Left { place: at, left: k }
+    Left { place, left }
 }

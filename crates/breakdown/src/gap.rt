@@ -8,14 +8,15 @@ ghost use Rattle.rules.specs.Reduced.{gap, signOf};
 ghost use Rattle.rules.specs.Texts.{word};
 ghost use Rattle.breakdown.specs.Buffer.{Grown};
 ghost use Rattle.breakdown.specs.Put.{byteText};
+ghost use Rattle.breakdown.specs.Words.{Words};
 
 // By its length, in parentheses.
-pub fn add_in_parens(buf: &mut [u8], k: usize, n: u32) -> usize
-    requires { ⌜ k + 22 ≤ length (now buf) ⌝ }
+pub fn add_in_parens(buf: &mut [u8], k: usize, n: u32, words: &[u32; 115]) -> usize
+    requires { ⌜ (k + 22 ≤ length (now buf)) × Words (now words) ⌝ }
     ensures { λ r. ⌜ Grown (now (buf .entry)) (now (buf .exit)) k (word (gap n)) r ⌝ }
 {
     let a = add_byte(buf, k, b'(');
-    let b = add_number(buf, a, n as u64);
+    let b = add_number(buf, a, n as u64, words);
     add_byte(buf, b, b')')
 }
 

@@ -10,3 +10,4 @@ pub mod sn;
 pub mod standard;
 pub mod text;
 pub mod total;
+pub mod words;

@@ -2,7 +2,6 @@
 ghost use mathlib.Core.List.{[], _∷_};
 ghost use Rattle.number.specs.Place.{Room, Wrote};
 ghost use Rattle.rules.specs.Bytes.{bytes};
-ghost use Rattle.breakdown.specs.Put.{byteText, Measured};
 
 fn put_one(out: &mut [u8], at: usize, b: u8) -> usize
     requires { ⌜ Room (now out) at (b ∷ []) ⌝ }
@@ -10,15 +9,6 @@ fn put_one(out: &mut [u8], at: usize, b: u8) -> usize
 {
     out[at] = b;
     at + 1
-}
-
-pub fn byte_length(b: u8) -> usize
-    ensures { λ r. ⌜ Measured (byteText b) 1 r ⌝ }
-{
-    if b == 0 {
-        return 0;
-    }
-    1
 }
 
 pub fn put_bytes(out: &mut [u8], at: usize, text: &[u8]) -> usize

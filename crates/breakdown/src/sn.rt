@@ -1,30 +1,33 @@
 // SN texts, part by part. The join limit says the mode: 0 detailed, 1 partial, 4 simplified.
-use crate::buffer::add_byte;
+use crate::buffer::Left;
 use crate::buffer::add_number;
+use crate::buffer::add_word;
 use crate::buffer::flush;
 use crate::buffer::number_length;
-use crate::buffer::put_buffer;
 use crate::gap::sign_byte;
 use crate::run::Done;
 use crate::run::Run;
 use crate::run::Tally;
 use crate::run::add_run;
-use crate::run::byte_for;
+use crate::run::open_run;
 use crate::run::run_length;
+use crate::words::class_word;
 ghost use Prim.Native.Nat.{_*_, _+_, _^_, _≤_, _<_};
 ghost use mathlib.Core.Path.{_≡_};
 ghost use mathlib.Core.Bool.{cond, false};
 ghost use mathlib.Core.Logic.{_≢_};
-ghost use mathlib.Core.List.{[], _∷_};
+ghost use mathlib.Core.List.{[], _∷_, _++_};
 ghost use lib.ListN.{length};
+ghost use Rattle.rules.specs.Bytes.{bytes};
 ghost use Rattle.rules.specs.Chart.{token};
 ghost use Rattle.rules.specs.Reduced.{dropOnes};
-ghost use Rattle.breakdown.specs.Buffer.{Grown};
+ghost use Rattle.breakdown.specs.Buffer.{Grown, Ready};
 ghost use Rattle.breakdown.specs.Parts.{OpenRun, PartMeasured, PartRoom, PartWritten, TokensBehind, snOn, snPart};
-ghost use Rattle.breakdown.specs.Put.{byteText, Measured};
-ghost use Rattle.breakdown.specs.Runs.{runToken};
+ghost use Rattle.breakdown.specs.Put.{Measured};
+ghost use Rattle.breakdown.specs.Runs.{runText, runToken};
 ghost use Rattle.breakdown.specs.Sn.{breakTokens, shown};
-ghost use Rattle.breakdown.specs.SnParts.{RunAt, TokenAt, WithBreak, ended, joinClass, longBreak, side};
+ghost use Rattle.breakdown.specs.SnParts.{RunAt, TokenAt, WithBreak, ended, joinClass, longBreak};
+ghost use Rattle.breakdown.specs.Words.{Words};
 
 // The next run, the break before it (0: none), and the place behind it.
 struct NextRun {
@@ -58,6 +61,27 @@ fn next_run(cs: &[u8], ns: &[u32], i: usize) -> NextRun
     }
 }
 
+// The same by a branch, which goes the same way again and again in most charts.
+fn next_run_by_branch(cs: &[u8], ns: &[u32], i: usize) -> NextRun
+    requires { ⌜ TokenAt (now cs) (now ns) i ⌝ }
+    ensures { λ r. ⌜ RunAt (now (cs .entry)) (now (ns .entry)) i (r .gap) (r .class) (r .length) (r .next) ⌝ }
+{
+    if cs[i] == 0 {
+        return NextRun {
+            gap: ns[i],
+            class: cs[i + 1],
+            length: ns[i + 1],
+            next: i + 2,
+        };
+    }
+    NextRun {
+        gap: 0,
+        class: cs[i],
+        length: ns[i],
+        next: i + 1,
+    }
+}
+
 // The class of a run that joins one of `class` over a break of `gap`: 0, which no run has, if none does.
 fn join_class(limit: u32, class: u8, gap: u32) -> u8
     ensures { λ r. ⌜ r ≡ joinClass limit class gap ⌝ }
@@ -83,19 +107,25 @@ fn with_break(limit: u32, run: Run, gap: u32) -> Run
     }
 }
 
-// Such a run and a space, and the sign and a space of a break that is longer than the limit.
-fn add_group(buf: &mut [u8], k: usize, limit: u32, run: Run, gap: u32) -> usize
-    requires { ⌜ (k + 27 ≤ length (now buf)) × (1 ≤ limit) × (run .class ≢ 0) × (run .length + gap < 2 ^ 64) ⌝ }
+// A run and a space.
+fn add_ended(buf: &mut [u8], k: usize, run: Run, words: &[u32; 115]) -> usize
+    requires { ⌜ (k + 27 ≤ length (now buf)) × Words (now words) ⌝ }
+    ensures { λ r. ⌜ Grown (now (buf .entry)) (now (buf .exit)) k (runText run ++ bytes " ") r ⌝ }
+{
+    let a = add_run(buf, k, run, words);
+    buf[a] = b' ';
+    a + 1
+}
+
+// A run with a break behind it over which no run joins, and the sign and a space of a break that is longer than the limit.
+fn add_group(buf: &mut [u8], k: usize, limit: u32, run: Run, gap: u32, words: &[u32; 115]) -> usize
+    requires { ⌜ (k + 29 ≤ length (now buf)) × Words (now words) × (1 ≤ limit) × (run .class ≢ 0) × (run .length + gap < 2 ^ 64) ⌝ }
     ensures { λ r. ⌜ Grown (now (buf .entry)) (now (buf .exit)) k (ended limit (shown limit (runToken run ∷ breakTokens gap))) r ⌝ }
 {
-    let whole = with_break(limit, run, gap);
-    let a = add_run(buf, k, whole);
-    buf[a] = b' ';
-    let b = a + 1;
-    buf[b] = sign_byte(32, gap);
-    let c = b + 1;
-    buf[c] = b' ';
-    if gap > limit { c + 1 } else { b }
+    let a = add_ended(buf, k, with_break(limit, run, gap), words);
+    buf[a] = sign_byte(32, gap);
+    buf[a + 1] = b' ';
+    if gap > limit { a + 2 } else { a }
 }
 
 // A part of a text in which runs join.
@@ -104,16 +134,53 @@ fn joined_part(
     ns: &[u32],
     limit: u32,
     run: Run,
+    words: &[u32; 115],
     buf: &mut [u8],
     out: &mut [u8],
-    at: usize,
+    from: Left,
 ) -> Done
-    requires { ⌜ (1 ≤ limit) × TokensBehind (run .class) (now cs) (now ns) × (run .length ≤ 2 ^ 62) × (512 ≤ length (now buf)) × PartRoom (snPart limit (runToken run) (now cs) (now ns)) (now out) at ⌝ }
-    ensures { λ r. ⌜ PartWritten (snPart limit (runToken run) (now (cs .entry)) (now (ns .entry))) (snOn limit (runToken (r .run))) (now (out .entry)) (now (out .exit)) at (r .place) × OpenRun (runToken run) (now (cs .entry)) (runToken (r .run)) ⌝ }
+    requires { ⌜ (1 ≤ limit) × TokensBehind (run .class) (now cs) (now ns) × (run .length ≤ 2 ^ 62) × Ready (now buf) (from .left) (now words) × PartRoom (snPart limit (runToken run) (now cs) (now ns)) (now buf) (now out) from ⌝ }
+    ensures { λ r. ⌜ PartWritten (snPart limit (runToken run) (now (cs .entry)) (now (ns .entry))) (snOn limit (runToken (r .run))) (now (buf .entry)) (now (out .entry)) from (now (buf .exit)) (now (out .exit)) (r .to) × OpenRun (runToken run) (now (cs .entry)) (runToken (r .run)) ⌝ }
 {
     let mut last = run;
-    let mut place = at;
-    let mut k: usize = 0;
+    let mut to = from;
+    let mut i: usize = 0;
+    while i < cs.len() {
+        let t = next_run_by_branch(cs, ns, i);
+        // right behind the last run nothing joins, and there is no break to show
+        if t.gap == 0 {
+            let full = add_ended(buf, to.left, last, words);
+            to = flush(buf, out, to.place, full);
+            last = open_run(t.class, t.length);
+        } else if t.class == join_class(limit, last.class, t.gap) {
+            last.length += t.gap as u64 + t.length as u64;
+            last.starred = true;
+        } else {
+            let full = add_group(buf, to.left, limit, last, t.gap, words);
+            to = flush(buf, out, to.place, full);
+            last = open_run(t.class, t.length);
+        }
+        i = t.next;
+    }
+    Done { run: last, to }
+}
+
+// The same, for long charts of short tokens, which the processor cannot foresee: no branch but for joins hangs on them.
+fn dense_joined_part(
+    cs: &[u8],
+    ns: &[u32],
+    limit: u32,
+    run: Run,
+    words: &[u32; 115],
+    buf: &mut [u8],
+    out: &mut [u8],
+    from: Left,
+) -> Done
+    requires { ⌜ (1 ≤ limit) × TokensBehind (run .class) (now cs) (now ns) × (run .length ≤ 2 ^ 62) × Ready (now buf) (from .left) (now words) × PartRoom (snPart limit (runToken run) (now cs) (now ns)) (now buf) (now out) from ⌝ }
+    ensures { λ r. ⌜ PartWritten (snPart limit (runToken run) (now (cs .entry)) (now (ns .entry))) (snOn limit (runToken (r .run))) (now (buf .entry)) (now (out .entry)) from (now (buf .exit)) (now (out .exit)) (r .to) × OpenRun (runToken run) (now (cs .entry)) (runToken (r .run)) ⌝ }
+{
+    let mut last = run;
+    let mut to = from;
     let mut i: usize = 0;
     while i < cs.len() {
         let t = next_run(cs, ns, i);
@@ -121,71 +188,54 @@ fn joined_part(
             last.length += t.gap as u64 + t.length as u64;
             last.starred = true;
         } else {
-            let full = add_group(buf, k, limit, last, t.gap);
-            let f = flush(out, place, buf, full);
-            place = f.place;
-            k = f.left;
-            last = Run {
-                class: t.class,
-                length: t.length as u64,
-                starred: false,
-            };
+            let full = add_group(buf, to.left, limit, last, t.gap, words);
+            to = flush(buf, out, to.place, full);
+            last = open_run(t.class, t.length);
         }
         i = t.next;
     }
-    Done {
-        run: last,
-        place: put_buffer(out, place, buf, k),
-    }
-}
-
-// What stands on a side of a token's length: a run's mark, or `paren`, on a side of a break's.
-fn side_byte(class: u8, paren: u8) -> u8
-    ensures { λ r. ⌜ byteText r ≡ side paren class ⌝ }
-{
-    byte_for(0x3d5c7e0000 + paren as u64, class)
+    Done { run: last, to }
 }
 
 // A run or a break, by its length, and a space; nothing for a break of 1.
-fn add_token(buf: &mut [u8], k: usize, class: u8, n: u32) -> usize
-    requires { ⌜ k + 24 ≤ length (now buf) ⌝ }
+fn add_token(buf: &mut [u8], k: usize, class: u8, n: u32, words: &[u32; 115]) -> usize
+    requires { ⌜ (k + 26 ≤ length (now buf)) × Words (now words) ⌝ }
     ensures { λ r. ⌜ Grown (now (buf .entry)) (now (buf .exit)) k (ended 0 (dropOnes (token class n false ∷ []))) r ⌝ }
 {
-    let a = add_byte(buf, k, side_byte(class, b'('));
-    let b = add_number(buf, a, n as u64);
-    let c = add_byte(buf, b, side_byte(class, b')'));
-    buf[c] = b' ';
-    if (class == 0) & (n == 1) { k } else { c + 1 }
+    let a = add_word(buf, k, class_word(words, 105, class));
+    let b = add_number(buf, a, n as u64, words);
+    let c = add_word(buf, b, class_word(words, 110, class));
+    if (class == 0) & (n == 1) { k } else { c }
 }
 
 // A part of a text in which no runs join.
-fn detailed_part(cs: &[u8], ns: &[u32], run: Run, buf: &mut [u8], out: &mut [u8], at: usize) -> Done
-    requires { ⌜ TokensBehind (run .class) (now cs) (now ns) × (512 ≤ length (now buf)) × PartRoom (snPart 0 (runToken run) (now cs) (now ns)) (now out) at ⌝ }
-    ensures { λ r. ⌜ PartWritten (snPart 0 (runToken run) (now (cs .entry)) (now (ns .entry))) (snOn 0 (runToken (r .run))) (now (out .entry)) (now (out .exit)) at (r .place) × OpenRun (runToken run) (now (cs .entry)) (runToken (r .run)) ⌝ }
+fn detailed_part(
+    cs: &[u8],
+    ns: &[u32],
+    run: Run,
+    words: &[u32; 115],
+    buf: &mut [u8],
+    out: &mut [u8],
+    from: Left,
+) -> Done
+    requires { ⌜ TokensBehind (run .class) (now cs) (now ns) × Ready (now buf) (from .left) (now words) × PartRoom (snPart 0 (runToken run) (now cs) (now ns)) (now buf) (now out) from ⌝ }
+    ensures { λ r. ⌜ PartWritten (snPart 0 (runToken run) (now (cs .entry)) (now (ns .entry))) (snOn 0 (runToken (r .run))) (now (buf .entry)) (now (out .entry)) from (now (buf .exit)) (now (out .exit)) (r .to) × OpenRun (runToken run) (now (cs .entry)) (runToken (r .run)) ⌝ }
 {
     if cs.len() == 0 {
-        return Done { run, place: at };
+        return Done { run, to: from };
     }
     let last = cs.len() - 1;
-    let mut k = add_run(buf, 0, run);
-    buf[k] = b' ';
-    k += 1;
-    let mut place = at;
+    let first = add_ended(buf, from.left, run, words);
+    let mut to = flush(buf, out, from.place, first);
     let mut i: usize = 0;
     while i < last {
-        let full = add_token(buf, k, cs[i], ns[i]);
-        let f = flush(out, place, buf, full);
-        place = f.place;
-        k = f.left;
+        let full = add_token(buf, to.left, cs[i], ns[i], words);
+        to = flush(buf, out, to.place, full);
         i += 1;
     }
     Done {
-        run: Run {
-            class: cs[last],
-            length: ns[last] as u64,
-            starred: false,
-        },
-        place: put_buffer(out, place, buf, k),
+        run: open_run(cs[last], ns[last]),
+        to,
     }
 }
 
@@ -194,18 +244,23 @@ pub fn sn_part(
     cs: &[u8],
     ns: &[u32],
     limit: u32,
+    dense: bool,
     run: Run,
+    words: &[u32; 115],
     buf: &mut [u8],
     out: &mut [u8],
-    at: usize,
+    from: Left,
 ) -> Done
-    requires { ⌜ TokensBehind (run .class) (now cs) (now ns) × (run .length ≤ 2 ^ 62) × (512 ≤ length (now buf)) × PartRoom (snPart limit (runToken run) (now cs) (now ns)) (now out) at ⌝ }
-    ensures { λ r. ⌜ PartWritten (snPart limit (runToken run) (now (cs .entry)) (now (ns .entry))) (snOn limit (runToken (r .run))) (now (out .entry)) (now (out .exit)) at (r .place) × OpenRun (runToken run) (now (cs .entry)) (runToken (r .run)) ⌝ }
+    requires { ⌜ TokensBehind (run .class) (now cs) (now ns) × (run .length ≤ 2 ^ 62) × Ready (now buf) (from .left) (now words) × PartRoom (snPart limit (runToken run) (now cs) (now ns)) (now buf) (now out) from ⌝ }
+    ensures { λ r. ⌜ PartWritten (snPart limit (runToken run) (now (cs .entry)) (now (ns .entry))) (snOn limit (runToken (r .run))) (now (buf .entry)) (now (out .entry)) from (now (buf .exit)) (now (out .exit)) (r .to) × OpenRun (runToken run) (now (cs .entry)) (runToken (r .run)) ⌝ }
 {
     if limit == 0 {
-        return detailed_part(cs, ns, run, buf, out, at);
+        return detailed_part(cs, ns, run, words, buf, out, from);
     }
-    joined_part(cs, ns, limit, run, buf, out, at)
+    if dense {
+        return dense_joined_part(cs, ns, limit, run, words, buf, out, from);
+    }
+    joined_part(cs, ns, limit, run, words, buf, out, from)
 }
 
 // How many bytes a break has that is shown behind a run, with a space: by its length in detailed, else as a sign.

@@ -1,37 +1,37 @@
 // Standard texts, part by part. Detailed: limit 0, gaps by length; partial: limit 0, signs; simple: limit 1, signs.
+use crate::buffer::Left;
 use crate::buffer::add_byte;
 use crate::buffer::add_number;
 use crate::buffer::flush;
 use crate::buffer::number_length;
-use crate::buffer::put_buffer;
 use crate::gap::add_in_parens;
 use crate::gap::sign_byte;
 use crate::piece::Piece;
 use crate::piece::fill;
 use crate::piece::piece_on;
-use crate::put::byte_length;
-use crate::run::star_byte;
+use crate::run::add_star;
+use crate::run::star_length;
 ghost use Prim.Native.Nat.{_+_, _*_, _^_, _≤_};
 ghost use mathlib.Core.Path.{_≡_};
 ghost use mathlib.Core.Bool.{cond};
 ghost use mathlib.Core.List.{_++_};
 ghost use lib.Dec.{eqb};
-ghost use lib.ListN.{length};
-ghost use Rattle.number.specs.Digits.{digits};
-ghost use Rattle.number.specs.Place.{Room, Wrote};
+ghost use lib.ListN.{length, take};
+ghost use Rattle.number.specs.Place.{Room};
 ghost use Rattle.rules.specs.Bytes.{bytes};
 ghost use Rattle.rules.specs.Reduced.{gap, signOf};
 ghost use Rattle.rules.specs.Texts.{part, word};
-ghost use Rattle.breakdown.specs.Buffer.{Grown};
+ghost use Rattle.breakdown.specs.Buffer.{Added, Grown, Ready};
 ghost use Rattle.breakdown.specs.Filled.{doneText, doneTexts};
 ghost use Rattle.breakdown.specs.Parts.{PartMeasured, PartRoom, PartWritten, TokensBehind, standardFrom, standardPart};
 ghost use Rattle.breakdown.specs.Put.{byteText, Measured};
 ghost use Rattle.breakdown.specs.Standard.{gapItem};
+ghost use Rattle.breakdown.specs.Words.{Words};
 
-// The piece that is open behind a part, and the next place.
+// The piece that is open behind a part, and where the text goes on.
 pub struct StandardDone {
     pub piece: Piece,
-    pub place: usize,
+    pub to: Left,
 }
 
 // The piece that is open behind a part, and how many bytes are done.
@@ -72,41 +72,42 @@ fn first_byte(n: u32) -> u8
 }
 
 // A gap by its length: "-" for 1, else in parentheses, which are stored anyway: the place says whether they count.
-fn add_length(buf: &mut [u8], k: usize, n: u32) -> usize
-    requires { ⌜ k + 24 ≤ length (now buf) ⌝ }
+fn add_length(buf: &mut [u8], k: usize, n: u32, words: &[u32; 115]) -> usize
+    requires { ⌜ (k + 24 ≤ length (now buf)) × Words (now words) ⌝ }
     ensures { λ r. ⌜ Grown (now (buf .entry)) (now (buf .exit)) k (part (gap n)) r ⌝ }
 {
     let a = add_byte(buf, k, first_byte(n));
-    let b = add_in_parens(buf, a, n);
+    let b = add_in_parens(buf, a, n, words);
     let c = add_byte(buf, b, b' ');
     if n == 1 { a } else { c }
 }
 
-fn add_gap(buf: &mut [u8], k: usize, signs: bool, n: u32) -> usize
-    requires { ⌜ k + 24 ≤ length (now buf) ⌝ }
+fn add_gap(buf: &mut [u8], k: usize, signs: bool, n: u32, words: &[u32; 115]) -> usize
+    requires { ⌜ (k + 24 ≤ length (now buf)) × Words (now words) ⌝ }
     ensures { λ r. ⌜ Grown (now (buf .entry)) (now (buf .exit)) k (part (gapItem signs n)) r ⌝ }
 {
     if signs {
         return add_sign(buf, k, n);
     }
-    add_length(buf, k, n)
+    add_length(buf, k, n, words)
 }
 
-// The length and star of a piece; the star as a byte, 0 if there is none.
-fn add_open(buf: &mut [u8], k: usize, n: u64, star: u8) -> usize
-    requires { ⌜ k + 21 ≤ length (now buf) ⌝ }
-    ensures { λ r. ⌜ Grown (now (buf .entry)) (now (buf .exit)) k (digits n ++ byteText star) r × (r ≤ k + 21) ⌝ }
-{
-    let a = add_number(buf, k, n);
-    add_byte(buf, a, star)
-}
-
-fn add_piece(buf: &mut [u8], k: usize, n: u64, starred: bool, gap: u32, signs: bool) -> usize
-    requires { ⌜ k + 45 ≤ length (now buf) ⌝ }
+// A piece and the gap behind it.
+fn add_piece(
+    buf: &mut [u8],
+    k: usize,
+    n: u64,
+    starred: bool,
+    gap: u32,
+    signs: bool,
+    words: &[u32; 115],
+) -> usize
+    requires { ⌜ (k + 45 ≤ length (now buf)) × Words (now words) ⌝ }
     ensures { λ r. ⌜ Grown (now (buf .entry)) (now (buf .exit)) k (doneText signs n starred gap) r ⌝ }
 {
-    let a = add_open(buf, k, n, star_byte(starred));
-    add_gap(buf, a, signs, gap)
+    let a = add_number(buf, k, n, words);
+    let b = add_star(buf, a, starred);
+    add_gap(buf, b, signs, gap, words)
 }
 
 // The pieces that are done, each with its gap.
@@ -116,24 +117,22 @@ fn put_pieces(
     gaps: &[u32; 16],
     count: usize,
     signs: bool,
+    words: &[u32; 115],
     buf: &mut [u8],
     out: &mut [u8],
-    at: usize,
-) -> usize
-    requires { ⌜ (count ≤ 16) × (512 ≤ length (now buf)) × Room (now out) at (doneTexts signs count (now lengths) (now stars) (now gaps)) ⌝ }
-    ensures { λ r. ⌜ Wrote (now (out .entry)) (now (out .exit)) at (doneTexts signs count (now (lengths .entry)) (now (stars .entry)) (now (gaps .entry))) r × (length (now (buf .exit)) ≡ length (now (buf .entry))) ⌝ }
+    from: Left,
+) -> Left
+    requires { ⌜ (count ≤ 16) × Ready (now buf) (from .left) (now words) × Room (now out) (from .place) (take (from .left) (now buf) ++ doneTexts signs count (now lengths) (now stars) (now gaps)) ⌝ }
+    ensures { λ r. ⌜ Added (now (buf .entry)) (now (out .entry)) from (doneTexts signs count (now (lengths .entry)) (now (stars .entry)) (now (gaps .entry))) (now (buf .exit)) (now (out .exit)) r ⌝ }
 {
-    let mut place = at;
-    let mut k: usize = 0;
+    let mut to = from;
     let mut i: usize = 0;
     while i < count {
-        let full = add_piece(buf, k, lengths[i], stars[i], gaps[i], signs);
-        let f = flush(out, place, buf, full);
-        place = f.place;
-        k = f.left;
+        let full = add_piece(buf, to.left, lengths[i], stars[i], gaps[i], signs, words);
+        to = flush(buf, out, to.place, full);
         i += 1;
     }
-    put_buffer(out, place, buf, k)
+    to
 }
 
 // A part: the tokens behind an open piece. The one that is open at its end is answered, and not written.
@@ -143,26 +142,66 @@ pub fn standard_part(
     limit: u32,
     signs: bool,
     piece: Piece,
+    words: &[u32; 115],
     buf: &mut [u8],
     out: &mut [u8],
-    at: usize,
+    from: Left,
 ) -> StandardDone
-    requires { ⌜ TokensBehind 1 (now cs) (now ns) × (piece .length ≤ 2 ^ 62) × (512 ≤ length (now buf)) × PartRoom (standardPart signs limit (piece .length) (piece .starred) (now cs) (now ns)) (now out) at ⌝ }
-    ensures { λ r. ⌜ PartWritten (standardPart signs limit (piece .length) (piece .starred) (now (cs .entry)) (now (ns .entry))) (standardFrom signs limit (r .piece .length) (r .piece .starred)) (now (out .entry)) (now (out .exit)) at (r .place) × (r .piece .length ≤ piece .length + 4294967296 * length (now (cs .entry))) ⌝ }
+    requires { ⌜ TokensBehind 1 (now cs) (now ns) × (piece .length ≤ 2 ^ 62) × Ready (now buf) (from .left) (now words) × PartRoom (standardPart signs limit (piece .length) (piece .starred) (now cs) (now ns)) (now buf) (now out) from ⌝ }
+    ensures { λ r. ⌜ PartWritten (standardPart signs limit (piece .length) (piece .starred) (now (cs .entry)) (now (ns .entry))) (standardFrom signs limit (r .piece .length) (r .piece .starred)) (now (buf .entry)) (now (out .entry)) from (now (buf .exit)) (now (out .exit)) (r .to) × (r .piece .length ≤ piece .length + 4294967296 * length (now (cs .entry))) ⌝ }
+{
+    let mut open = piece;
+    let mut to = from;
+    let mut i: usize = 0;
+    while i < cs.len() {
+        let n = ns[i];
+        let next = i + 1;
+        if cs[i] != 0 {
+            open.length += n as u64;
+        } else if n <= limit {
+            open.length += n as u64;
+            open.starred = true;
+        } else {
+            let full = add_piece(buf, to.left, open.length, open.starred, n, signs, words);
+            to = flush(buf, out, to.place, full);
+            open = Piece {
+                length: 0,
+                starred: false,
+            };
+        }
+        i = next;
+    }
+    StandardDone { piece: open, to }
+}
+
+// The same, for long charts of short tokens: no branch hangs on the tokens, which the processor cannot foresee there.
+pub fn dense_part(
+    cs: &[u8],
+    ns: &[u32],
+    limit: u32,
+    signs: bool,
+    piece: Piece,
+    words: &[u32; 115],
+    buf: &mut [u8],
+    out: &mut [u8],
+    from: Left,
+) -> StandardDone
+    requires { ⌜ TokensBehind 1 (now cs) (now ns) × (piece .length ≤ 2 ^ 62) × Ready (now buf) (from .left) (now words) × PartRoom (standardPart signs limit (piece .length) (piece .starred) (now cs) (now ns)) (now buf) (now out) from ⌝ }
+    ensures { λ r. ⌜ PartWritten (standardPart signs limit (piece .length) (piece .starred) (now (cs .entry)) (now (ns .entry))) (standardFrom signs limit (r .piece .length) (r .piece .starred)) (now (buf .entry)) (now (out .entry)) from (now (buf .exit)) (now (out .exit)) (r .to) × (r .piece .length ≤ piece .length + 4294967296 * length (now (cs .entry))) ⌝ }
 {
     let mut lengths = [0u64; 16];
     let mut stars = [false; 16];
     let mut gaps = [0u32; 16];
     let mut open = piece;
-    let mut place = at;
+    let mut to = from;
     let mut i: usize = 0;
     while i < cs.len() {
         let f = fill(cs, ns, limit, i, open, &mut lengths, &mut stars, &mut gaps);
-        place = put_pieces(&lengths, &stars, &gaps, f.count, signs, buf, out, place);
+        to = put_pieces(&lengths, &stars, &gaps, f.count, signs, words, buf, out, to);
         open = f.piece;
         i = f.next;
     }
-    StandardDone { piece: open, place }
+    StandardDone { piece: open, to }
 }
 
 // How long a gap that is shown is.
@@ -180,7 +219,7 @@ fn shown_length(signs: bool, n: u32) -> usize
 fn done_length(n: u64, starred: bool, signs: bool, gap: u32) -> usize
     ensures { λ r. ⌜ Measured (doneText signs n starred gap) 47 r ⌝ }
 {
-    number_length(n) + byte_length(star_byte(starred)) + shown_length(signs, gap)
+    number_length(n) + star_length(starred) + shown_length(signs, gap)
 }
 
 // How many bytes `standard_part` writes.

@@ -1,53 +1,67 @@
 // The text of a form, part by part: from tokens in two slices, or from measures.
+use crate::buffer::Left;
+use crate::buffer::flush;
+use crate::buffer::put_buffer;
 use crate::form::Form;
 use crate::piece::Piece;
 use crate::put::put_no_streams;
 use crate::run::Done;
 use crate::run::Run;
-use crate::run::put_run;
+use crate::run::add_run;
 use crate::sn::sn_part;
+use crate::standard::dense_part;
 use crate::standard::standard_part;
+use crate::words::words;
 use measures::scan::tokens_into;
 use measures::tokens::token_at;
-ghost use Prim.Native.Nat.{_≤_, _^_};
-ghost use mathlib.Core.List.{[]};
+ghost use Prim.Native.Nat.{_+_, _≤_, _^_};
+ghost use mathlib.Core.List.{[], _++_};
 ghost use mathlib.Core.Logic.{_≢_};
-ghost use lib.ListN.{length};
+ghost use lib.ListN.{length, take};
 ghost use Rattle.number.specs.Place.{Room, Wrote};
 ghost use Rattle.rules.specs.Chart.{classes, runs};
 ghost use Rattle.measures.specs.Scan.{paired};
+ghost use Rattle.breakdown.specs.Buffer.{Added, Grown, Ready};
 ghost use Rattle.breakdown.specs.Parts.{Tokens, TokensBehind, PartRoom, PartWritten};
 ghost use Rattle.breakdown.specs.Forms.{textOf, openText, partText, Open, OpenNext, FirstRun, ActiveMeasures};
+ghost use Rattle.breakdown.specs.Runs.{runText};
 
 // One part of a text; the run or piece that is open behind it is answered.
 fn text_part(
     cs: &[u8],
     ns: &[u32],
     form: Form,
+    dense: bool,
     run: Run,
+    words: &[u32; 115],
     buf: &mut [u8],
     out: &mut [u8],
-    at: usize,
+    from: Left,
 ) -> Done
-    requires { ⌜ TokensBehind (run .class) (now cs) (now ns) × Open form run × (run .length ≤ 2 ^ 62) × (512 ≤ length (now buf)) × PartRoom (partText form run (now cs) (now ns)) (now out) at ⌝ }
-    ensures { λ r. ⌜ PartWritten (partText form run (now (cs .entry)) (now (ns .entry))) (openText form (r .run)) (now (out .entry)) (now (out .exit)) at (r .place) × OpenNext form run (length (now (cs .entry))) (r .run) ⌝ }
+    requires { ⌜ TokensBehind (run .class) (now cs) (now ns) × Open form run × (run .length ≤ 2 ^ 62) × Ready (now buf) (from .left) (now words) × PartRoom (partText form run (now cs) (now ns)) (now buf) (now out) from ⌝ }
+    ensures { λ r. ⌜ PartWritten (partText form run (now (cs .entry)) (now (ns .entry))) (openText form (r .run)) (now (buf .entry)) (now (out .entry)) from (now (buf .exit)) (now (out .exit)) (r .to) × OpenNext form run (length (now (cs .entry))) (r .run) ⌝ }
 {
     if form.sn {
-        return sn_part(cs, ns, form.limit, run, buf, out, at);
+        return sn_part(cs, ns, form.limit, dense, run, words, buf, out, from);
     }
     let open = Piece {
         length: run.length,
         starred: run.starred,
     };
-    let d = standard_part(cs, ns, form.limit, form.signs, open, buf, out, at);
+    let d = if dense {
+        dense_part(cs, ns, form.limit, form.signs, open, words, buf, out, from)
+    } else {
+        standard_part(cs, ns, form.limit, form.signs, open, words, buf, out, from)
+    };
     let last = d.piece;
+    let to = d.to;
     Done {
         run: Run {
             class: 1,
             length: last.length,
             starred: last.starred,
         },
-        place: d.place,
+        to,
     }
 }
 
@@ -64,34 +78,58 @@ pub fn first_run(form: Form, class: u8, length: u32) -> Run
 }
 
 // The text of no tokens.
-fn put_none(form: Form, out: &mut [u8], at: usize) -> usize
-    requires { ⌜ Room (now out) at (textOf form []) ⌝ }
-    ensures { λ r. ⌜ Wrote (now (out .entry)) (now (out .exit)) at (textOf form []) r ⌝ }
+fn add_none(form: Form, buf: &mut [u8], k: usize) -> usize
+    requires { ⌜ k + 11 ≤ length (now buf) ⌝ }
+    ensures { λ r. ⌜ Grown (now (buf .entry)) (now (buf .exit)) k (textOf form []) r ⌝ }
 {
     if form.sn {
-        return at;
+        return k;
     }
-    put_no_streams(out, at)
+    put_no_streams(buf, k)
 }
 
-// From the tokens in two slices.
+// The last run or piece.
+fn add_last(done: Done, words: &[u32; 115], buf: &mut [u8], out: &mut [u8]) -> Left
+    requires { ⌜ Ready (now buf) (done .to .left) (now words) × Room (now out) (done .to .place) (take (done .to .left) (now buf) ++ runText (done .run)) ⌝ }
+    ensures { λ r. ⌜ Added (now (buf .entry)) (now (out .entry)) (done .to) (runText (done .run)) (now (buf .exit)) (now (out .exit)) r ⌝ }
+{
+    let to = done.to;
+    let run = done.run;
+    let full = add_run(buf, to.left, run, words);
+    flush(buf, out, to.place, full)
+}
+
+// From the tokens in two slices; `dense` picks the way of writing, not the text.
 pub fn text_of_tokens(
     cs: &[u8],
     ns: &[u32],
     form: Form,
+    dense: bool,
+    words: &[u32; 115],
     buf: &mut [u8],
     out: &mut [u8],
-    at: usize,
-) -> usize
-    requires { ⌜ Tokens (now cs) (now ns) × (512 ≤ length (now buf)) × Room (now out) at (textOf form (paired (now cs) (now ns))) ⌝ }
-    ensures { λ r. ⌜ Wrote (now (out .entry)) (now (out .exit)) at (textOf form (paired (now (cs .entry)) (now (ns .entry)))) r ⌝ }
+    from: Left,
+) -> Left
+    requires { ⌜ Tokens (now cs) (now ns) × Ready (now buf) (from .left) (now words) × Room (now out) (from .place) (take (from .left) (now buf) ++ textOf form (paired (now cs) (now ns))) ⌝ }
+    ensures { λ r. ⌜ Added (now (buf .entry)) (now (out .entry)) from (textOf form (paired (now (cs .entry)) (now (ns .entry)))) (now (buf .exit)) (now (out .exit)) r ⌝ }
 {
     if cs.len() == 0 {
-        return put_none(form, out, at);
+        let full = add_none(form, buf, from.left);
+        return flush(buf, out, from.place, full);
     }
     let first = first_run(form, cs[0], ns[0]);
-    let done = text_part(&cs[1..], &ns[1..], form, first, buf, out, at);
-    put_run(out, done.place, buf, done.run)
+    let done = text_part(
+        &cs[1..],
+        &ns[1..],
+        form,
+        dense,
+        first,
+        words,
+        buf,
+        out,
+        from,
+    );
+    add_last(done, words, buf, out)
 }
 
 // From the measures of an active part, whose tokens are read some at a time.
@@ -99,30 +137,52 @@ pub fn text_of_measures(m: &[u32], form: Form, out: &mut [u8], at: usize) -> usi
     requires { ⌜ ActiveMeasures (now m) × Room (now out) at (textOf form (runs (classes (now m)))) ⌝ }
     ensures { λ r. ⌜ Wrote (now (out .entry)) (now (out .exit)) at (textOf form (runs (classes (now (m .entry))))) r ⌝ }
 {
-    if m.len() == 0 {
-        return put_none(form, out, at);
-    }
+    let words = words();
     let mut buf = [0u8; 512];
+    let to = measures_text(m, form, &words, &mut buf, out, at);
+    put_buffer(out, to.place, &buf, to.left)
+}
+
+// .. by way of an empty buffer.
+fn measures_text(
+    m: &[u32],
+    form: Form,
+    words: &[u32; 115],
+    buf: &mut [u8],
+    out: &mut [u8],
+    at: usize,
+) -> Left
+    requires { ⌜ ActiveMeasures (now m) × Ready (now buf) 0 (now words) × Room (now out) at (textOf form (runs (classes (now m)))) ⌝ }
+    ensures { λ r. ⌜ Added (now (buf .entry)) (now (out .entry)) (record { place = at; left = 0 }) (textOf form (runs (classes (now (m .entry))))) (now (buf .exit)) (now (out .exit)) r ⌝ }
+{
+    if m.len() == 0 {
+        return Left {
+            place: at,
+            left: add_none(form, buf, 0),
+        };
+    }
     let mut cs = [0u8; 256];
     let mut ns = [0u32; 256];
     let first = token_at(m, 0);
     let mut run = first_run(form, first.class, first.length);
+    let mut to = Left { place: at, left: 0 };
     let mut i = first.length as usize;
-    let mut place = at;
     while i < m.len() {
         let t = tokens_into(&m[i..], &mut cs, &mut ns);
         let done = text_part(
             &cs[..t.tokens],
             &ns[..t.tokens],
             form,
+            false,
             run,
-            &mut buf,
+            words,
+            buf,
             out,
-            place,
+            to,
         );
         run = done.run;
-        place = done.place;
+        to = done.to;
         i += t.next;
     }
-    put_run(out, place, &mut buf, run)
+    add_last(Done { run, to }, words, buf, out)
 }

@@ -3,7 +3,7 @@
 use Prim.Native.Nat.{ℕ, _+_, _*_, _-_, _≤_, _<_}
 use mathlib.Core.Path.{_≡_, refl, ap}
 use mathlib.Core.Bool.{true, false}
-use mathlib.Core.List.{List, [], _∷_, _++_, append-nil}
+use mathlib.Core.List.{List, [], _∷_, append-nil}
 use native.Mathlib.Nat.{zero-add}
 use native.Mathlib.Omega.{arith}
 use lib.Dec.{leb}
@@ -18,14 +18,6 @@ use Rattle.measures.specs.Domain.{Domain}
 use Rattle.streams.proofs.Texts.{text-short}
 use Rattle.streams.specs.Promises.{threeNo, Breakdowns}
 use Rattle.streams.specs.declared.ThreeWritten.{ThreeWritten}
-
--- room for some texts end to end from `at` on: for the first, and, once that is written, for the others
-module _ (rest : List ℕ) {xs first out : List ℕ} {at : ℕ} (e : xs ≡ first) where
-  pub room-one : Room out at (first ++ rest) → Room out at xs
-  room-one h = rw e (room-first first rest h)
-
-  pub room-others : {mid : List ℕ} {r : ℕ} → Wrote out mid at xs r → Room out at (first ++ rest) → Room mid r rest
-  room-others w h = room-next first rest (rw e at w) h
 
 module _ (m : List ℕ) where
   -- the texts of some kinds, written one after the other from `at` on, and the length of each

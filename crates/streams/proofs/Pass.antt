@@ -4,14 +4,15 @@ use Prim.Native.Nat.{ℕ, zero, suc, _+_, _*_, _-_, _≤_, _<_}
 use mathlib.Core.Path.{_≡_, refl, sym, ap, _∙_}
 use mathlib.Core.Bool.{Bool, true, false, _&&_}
 use mathlib.Core.Logic.{_≢_, ⊎-elim}
-use mathlib.Core.List.{List, [], _∷_}
+use mathlib.Core.List.{List, [], _∷_, _++_, append-assoc}
 use native.Mathlib.Omega.{arith}
 use lib.Dec.{leb}
 use lib.ListN.{length, take, getD, length-append}
 use lib.Seq.{length-take-le}
 use borrow.Author.Tests.{le-leb, lt-leb, leb-true}
-use Rattle.number.specs.Place.{Room}
-use Rattle.number.specs.Questions.{question, firstNo}
+use Rattle.number.specs.Place.{Room, Wrote}
+use Rattle.number.specs.Questions.{question, filled, firstNo}
+use Rattle.number.proofs.Place.{room-first, at-start}
 use Rattle.rules.specs.Chart.{classes, activePart, runs, tokens, counts}
 use Rattle.rules.specs.declared.Kind.{Kind}
 use Rattle.rules.specs.declared.Kind.the-variants.{Sn as sn, Standard as standard}
@@ -24,14 +25,16 @@ use Rattle.measures.specs.Scan.{InSlices, paired}
 use Rattle.measures.proofs.Part.{part-runs}
 use Rattle.measures.proofs.Counted.{tokens-few}
 use Rattle.measures.proofs.Written.{withinC, withinN, back}
+use Rattle.breakdown.specs.Buffer.{Added, Ready}
 use Rattle.breakdown.specs.Parts.{Tokens}
 use Rattle.breakdown.specs.Forms.{formOf, isTotal, textOf}
 use Rattle.breakdown.specs.Lengths.{DueOf}
+use Rattle.breakdown.specs.declared.buffer.Left.{Left}
 use Rattle.breakdown.specs.declared.form.Form.{Form}
 use Rattle.breakdown.specs.declared.length.Due.{Due}
+use Rattle.breakdown.proofs.Added.{goesOn, added-none, added-room, added, added-ready, added-next, added-ends}
 use Rattle.breakdown.proofs.Measures.{paired-length}
 use Rattle.breakdown.proofs.Modes.{part-tokens, tokens-of, form-text}
-use Rattle.streams.proofs.EndToEnd.{Chain, from-start}
 use Rattle.streams.specs.Promises.{passNo, Outputs}
 use Rattle.streams.specs.Pass.{FirstNo, Shorter, Tokened, SixTexts, refusedPass}
 
@@ -69,11 +72,54 @@ module _ {m cs ns old : List ℕ} (t : Tokened m cs ns old) where
   pub made : (k : Kind) → isTotal k ≡ false → {f : Form} → f ≡ formOf k → textOf f (paired cs ns) ≡ text k m
   made k h e = ap (λ (f : Form). textOf f (paired cs ns)) e ∙ form-text (paired cs ns) m (t .tokens) k h
 
-  pub room : Room old 0 (endToEnd passKinds m)
-  room = record { fits = omega (arith, t .room) }
+-- room for the texts of some kinds behind what stands in the buffer
+pub record Going (m : List ℕ) (ks : List Kind) (table buf out : List ℕ) (to : Left) : Type 0 where
+  pub ready : Ready buf (to .left) table
+  pub room : Room out (to .place) (take (to .left) buf ++ endToEnd ks m)
+  pub all : to .place + to .left + length (endToEnd ks m) ≡ length (endToEnd passKinds m)
 
-  pub six : {new ls : List ℕ} {a : ℕ} → Chain m passKinds old 0 new ((a - 0) ∷ ls) → SixTexts m old new (a ∷ ls)
-  six c = let s = from-start m (t .room) c in record { each = s .0; bytes = s .1 }
+-- the next text, and the others behind it
+module _ {m : List ℕ} {k : Kind} {ks : List Kind} {table buf out : List ℕ} {from : Left} (g : Going m (k ∷ ks) table buf out from)
+    {xs : List ℕ} (e : xs ≡ text k m) where
+  pub going-room : Room out (from .place) (take (from .left) buf ++ xs)
+  going-room = rw e (room-first (take (from .left) buf ++ text k m) (endToEnd ks m) (rw append-assoc (g .room)))
+
+  module _ {last new : List ℕ} {to : Left} (a : Added buf out from xs last new to) where
+    next : to .place + to .left ≡ from .place + from .left + length (text k m)
+    next = rw (← e) (added-next xs a (omega (arith, g .ready .long, g .ready .few)) (omega (arith, added-ready xs a (g .ready) .long, a .few)))
+
+    pub going-on : Going m ks table last new to
+    going-on =
+        record {
+          ready = added-ready xs a (g .ready);
+          room = added-room xs a (endToEnd ks m) (rw e (g .room));
+          all = omega (arith, g .all, next, length-append (text k m) (endToEnd ks m));
+        }
+
+    pub going-between : length m ≤ 1048576 → (from .place + from .left ≤ to .place + to .left) × (to .place + to .left < 18446744073709551616)
+    going-between h = (omega (arith, next), omega (arith, going-on .all, roomy m))
+
+    pub going-length : {r : ℕ} → r + (from .place + from .left) ≡ to .place + to .left → r ≡ length (text k m)
+    going-length h = omega (arith, next, h)
+
+-- the texts of some kinds, added one after the other
+pub data Chained (m : List ℕ) : List Kind → List ℕ → List ℕ → Left → List ℕ → List ℕ → Left → Type 0 where
+  ended : {buf out : List ℕ} {to : Left} → to .left ≤ 448 → Chained m [] buf out to buf out to
+  then : {k : Kind} {ks : List Kind} {buf out : List ℕ} {from : Left} {xs last mid : List ℕ} {next : Left} {end new : List ℕ} {to : Left}
+      → xs ≡ text k m → Added buf out from xs last mid next → Chained m ks last mid next end new to → Chained m (k ∷ ks) buf out from end new to
+
+chained : {m : List ℕ} {ks : List Kind} {buf out : List ℕ} {from : Left} {end new : List ℕ} {to : Left} → Chained m ks buf out from end new to
+    → Added buf out from (endToEnd ks m) end new to
+chained (ended h) = added-none h
+chained {m} (then {k = k} {ks = ks} e a c) = added (text k m) (rw e at a) (endToEnd ks m) (chained c)
+
+module _ {m cs ns old : List ℕ} (t : Tokened m cs ns old) {table buf : List ℕ} (h : Ready buf 0 table) where
+  pub going : Going m passKinds table buf old (goesOn 0 0)
+  going = record { ready = h; room = record { fits = omega (arith, t .room) }; all = omega arith }
+
+  pub six : {last mid new : List ℕ} {to : Left} {r : ℕ} → Chained m passKinds buf old (goesOn 0 0) last mid to → Wrote mid new (to .place) (take (to .left) last) r
+      → new ≡ filled old (endToEnd passKinds m)
+  six {new = new} {r = r} c w = at-start (endToEnd passKinds m) old new r (t .room) (added-ends (endToEnd passKinds m) (chained c) w) .1
 
 -- ---- questions 1, 2 and 4
 

@@ -1,15 +1,19 @@
 // The pass: tokens, counts and six texts of a chart.
 use crate::StreamOutputs;
+use breakdown::buffer::Left;
+use breakdown::buffer::put_buffer;
 use breakdown::form::sn_form;
 use breakdown::form::standard_form;
 use breakdown::length::due_of_measures;
 use breakdown::text::text_of_tokens;
+use breakdown::words::words;
 use measures::active::active_range;
 use measures::counts::no_counts;
 use measures::scan::scan;
-ghost use Prim.Native.Nat.{_+_, _*_, _≤_};
+ghost use Prim.Native.Nat.{_+_, _*_, _^_, _≤_, _<_};
 ghost use mathlib.Core.Path.{_≡_};
 ghost use mathlib.Core.Bool.{true};
+ghost use Rattle.breakdown.specs.Buffer.{Ready};
 ghost use Rattle.streams.specs.Promises.{Outputs};
 ghost use Rattle.streams.specs.Pass.{FirstNo, Shorter, SixTexts, refusedPass, Tokened};
 
@@ -53,19 +57,53 @@ fn first_no(m: &[u32], classes: usize, lengths: usize, room: usize) -> u32
     0
 }
 
-// The six texts end to end, from the tokens of `m`; the length of each is answered.
-fn put_texts(m: &[u32], classes: &[u8], lengths: &[u32], out: &mut [u8]) -> [usize; 6]
+// How many bytes were added between two places.
+fn between(from: Left, to: Left) -> usize
+    requires { ⌜ (from .place + from .left ≤ to .place + to .left) × (to .place + to .left < 2 ^ 64) ⌝ }
+    ensures { λ r. ⌜ r + (from .place + from .left) ≡ to .place + to .left ⌝ }
+{
+    to.place + to.left - (from.place + from.left)
+}
+
+// The six texts end to end, by way of an empty buffer, from the tokens of `m`; the length of each is answered.
+fn put_six(
+    m: &[u32],
+    cs: &[u8],
+    ns: &[u32],
+    dense: bool,
+    words: &[u32; 115],
+    buf: &mut [u8],
+    out: &mut [u8],
+) -> [usize; 6]
+    requires { ⌜ Tokened (now m) (now cs) (now ns) (now out) × Ready (now buf) 0 (now words) ⌝ }
+    ensures { λ r. ⌜ SixTexts (now (m .entry)) (now (out .entry)) (now (out .exit)) r ⌝ }
+{
+    let start = Left { place: 0, left: 0 };
+    let a = text_of_tokens(cs, ns, sn_form(0), dense, words, buf, out, start);
+    let b = text_of_tokens(cs, ns, sn_form(1), dense, words, buf, out, a);
+    let c = text_of_tokens(cs, ns, sn_form(4), dense, words, buf, out, b);
+    let d = text_of_tokens(cs, ns, standard_form(0, false), dense, words, buf, out, c);
+    let e = text_of_tokens(cs, ns, standard_form(0, true), dense, words, buf, out, d);
+    let f = text_of_tokens(cs, ns, standard_form(1, true), dense, words, buf, out, e);
+    put_buffer(out, f.place, buf, f.left);
+    [
+        between(start, a),
+        between(a, b),
+        between(b, c),
+        between(c, d),
+        between(d, e),
+        between(e, f),
+    ]
+}
+
+// .. with a table and a buffer of its own.
+fn put_texts(m: &[u32], classes: &[u8], lengths: &[u32], dense: bool, out: &mut [u8]) -> [usize; 6]
     requires { ⌜ Tokened (now m) (now classes) (now lengths) (now out) ⌝ }
     ensures { λ r. ⌜ SixTexts (now (m .entry)) (now (out .entry)) (now (out .exit)) r ⌝ }
 {
+    let words = words();
     let mut buf = [0u8; 512];
-    let a = text_of_tokens(classes, lengths, sn_form(0), &mut buf, out, 0);
-    let b = text_of_tokens(classes, lengths, sn_form(1), &mut buf, out, a);
-    let c = text_of_tokens(classes, lengths, sn_form(4), &mut buf, out, b);
-    let d = text_of_tokens(classes, lengths, standard_form(0, false), &mut buf, out, c);
-    let e = text_of_tokens(classes, lengths, standard_form(0, true), &mut buf, out, d);
-    let f = text_of_tokens(classes, lengths, standard_form(1, true), &mut buf, out, e);
-    [a, b - a, c - b, d - c, e - d, f - e]
+    put_six(m, classes, lengths, dense, &words, &mut buf, out)
 }
 
 fn refused(number: u32) -> StreamOutputs
@@ -79,7 +117,8 @@ fn refused(number: u32) -> StreamOutputs
     }
 }
 
-// Questions 1, 2, 4, all asked before anything is written.
+// Questions 1, 2, 4, all asked before anything is written. Where there are many short tokens and breaks among them, which the processor
+// cannot foresee, the texts are written without a branch on them.
 pub fn compute_stream_outputs(
     m: &[u32],
     classes: &mut [u8],
@@ -95,7 +134,9 @@ pub fn compute_stream_outputs(
     let scanned = scan(m, classes, lengths);
     let counts = scanned.counts;
     let tokens = scanned.tokens;
-    let texts = put_texts(m, &classes[..tokens], &lengths[..tokens], out);
+    let breaks = counts.total_breaks as usize;
+    let dense = (tokens > 8192) & (tokens > m.len() / 2) & (breaks > m.len() / 8);
+    let texts = put_texts(m, &classes[..tokens], &lengths[..tokens], dense, out);
     StreamOutputs {
         refused: 0,
         counts,

@@ -2,6 +2,7 @@
 use breakdown::run::Run;
 use breakdown::run::put_run;
 use breakdown::run::run_length;
+use breakdown::words::words;
 use number::Written;
 use rules::RunDensity;
 ghost use mathlib.Core.Path.{_≡_};
@@ -43,8 +44,9 @@ pub fn format_run_symbol(class: RunDensity, length: u64, star: bool, out: &mut [
             length: 0,
         };
     }
-    let mut buf = [0u8; 24];
-    let n = put_run(out, 0, &mut buf, run);
+    let words = words();
+    let mut buf = [0u8; 26];
+    let n = put_run(out, 0, &mut buf, run, &words);
     Written {
         refused: 0,
         length: n,

@@ -1,66 +1,35 @@
 -- `breakdown::buffer::add_number` meets its contract.
 -- Assumes nothing.
-use Prim.Native.Nat.{_<_}
-use mathlib.Core.Logic.{⊎-elim}
 use native.Mathlib.Omega.{arith}
-use borrow.Author.Needs.{needs}
-use lib.ListN.{length, length-set}
 use Rattle.number.proofs.Digits.{at-most}
-use Rattle.breakdown.proofs.Growing.{one-digit, two-digits}
+use Rattle.breakdown.proofs.Growing.{worded}
+use borrow.Author.Needs.{needs}
 use Rattle.breakdown.proofs.buffer.add_number.Statement.{statement}
 use Rattle.breakdown.proofs.buffer.add_number.Tie as tie
 
--- the last digit's place
-place : (c : tie.Joined2) → c .if2 .last < length (c .before .before .before .args .buf .now)
-place c =
-    let s = c .before .before .before in
-    ⊎-elim (λ w. omega (arith, w .1, s .pre)) (λ w. omega (arith, w .1, s .pre)) (c .if2 .came)
-
 add-long-requires : tie.Need-add-long-requires
-add-long-requires c κs =
-    let s = c .before .before .before in
-    record { fits = omega (arith, s .pre, at-most 20 (s .args .n) (omega arith) (omega arith)) }
+add-long-requires c κs = let s = c .before .before .before in record { fits = omega (arith, s .pre .0, at-most 20 (s .args .n) (omega arith) (omega arith)) }
 
 same-length : tie.Need-same-length
 same-length c = search needs
 
 returns : tie.Need-returns
-returns c = c .before .before .add-long .ensures
+returns c = search needs
 
-add-buf : tie.Need-add-buf
-add-buf c = search needs
+mul-add-word : tie.Need-mul-add-word
+mul-add-word c = search needs
 
-cast-buf : tie.Need-cast-buf
-cast-buf c = search needs
+element-copy-out-add-word : tie.Need-element-copy-out-add-word
+element-copy-out-add-word c = search needs
 
-slice-write-buf : tie.Need-slice-write-buf
-slice-write-buf c = search needs
-
-add-last : tie.Need-add-last
-add-last c = search needs
-
-add-buf-2 : tie.Need-add-buf-2
-add-buf-2 c = search needs
-
-cast-buf-2 : tie.Need-cast-buf-2
-cast-buf-2 c = search needs
-
-slice-write-buf-2 : tie.Need-slice-write-buf-2
-slice-write-buf-2 c = rw length-set (place c)
-
-add-result : tie.Need-add-result
-add-result c = omega (arith, place (c .before))
+add-word-requires : tie.Need-add-word-requires
+add-word-requires c κs = let s = c .before .before .before .before in (omega (arith, s .pre .0), s .pre .1 .number (s .args .n) (omega arith) .short)
 
 same-length-2 : tie.Need-same-length-2
 same-length-2 c = search needs
 
 returns-2 : tie.Need-returns-2
-returns-2 c =
-    let s = c .before .before .before .before in
-    ⊎-elim
-    (λ w. rw (w .1) (one-digit (s .args .n) (omega arith) (omega (arith, s .pre)) (w .0 .taken)))
-    (λ w. rw (w .1) (two-digits (s .args .n) (omega arith) (omega (arith, s .pre)) (w .0 .left)))
-    (c .before .if2 .came)
+returns-2 c = let s = c .before .before .before .before .before .before .before in worded (s .pre .1 .number (s .args .n) (omega arith)) (c .before .before .add-word .ensures)
 
 pub add-number-spec : {M : Type 1} → statement M
 add-number-spec =
@@ -69,13 +38,8 @@ add-number-spec =
     add-long-requires
     same-length
     returns
-    add-buf
-    cast-buf
-    slice-write-buf
-    add-last
-    add-buf-2
-    cast-buf-2
-    slice-write-buf-2
-    add-result
+    mul-add-word
+    element-copy-out-add-word
+    add-word-requires
     same-length-2
     returns-2)

@@ -1,10 +1,7 @@
 -- `breakdown::buffer::flush` meets its contract.
 -- Assumes nothing.
-use mathlib.Core.Path.{refl, sym}
-use mathlib.Core.List.{[], append-nil}
-use native.Mathlib.Omega.{arith}
 use borrow.Author.Needs.{needs}
-use Rattle.number.proofs.Place.{still}
+use Rattle.breakdown.proofs.Added.{added-none}
 use Rattle.breakdown.proofs.buffer.flush.Statement.{statement}
 use Rattle.breakdown.proofs.buffer.flush.Tie as tie
 
@@ -15,10 +12,10 @@ same-length : tie.Need-same-length
 same-length c = search needs
 
 returns : tie.Need-returns
-returns c = record { front = _; wrote = c .before .before .put-buffer .ensures; all = sym (append-nil _); few = omega arith }
+returns c = search needs
 
 returns-2 : tie.Need-returns-2
-returns-2 c = record { front = []; wrote = still; all = refl; few = c .if1 .left }
+returns-2 c = added-none (c .if1 .left)
 
 pub flush-spec : {M : Type 1} → statement M
 flush-spec = tie.close (tie.spec put-buffer-requires same-length returns returns-2)

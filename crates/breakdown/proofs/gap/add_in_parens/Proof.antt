@@ -17,9 +17,9 @@ add-number-requires c κs = search needs
 add-byte-requires-2 : tie.Need-add-byte-requires-2
 add-byte-requires-2 c κs =
     let s = c .before .before .before .before .before .before .before .before .before .before in
-    let w = c .before .before .before in
-    let v = c .before .before .before .before .before .before .before .add-byte .ensures in
-    omega (arith, s .pre, at-most 20 (s .args .n) (omega arith) (omega arith), v .next, v .long, w .add-number .ensures .next, w .add-number .ensures .long)
+    let a = c .before .before .before .before .before .before .before .add-byte .ensures in
+    let b = c .before .before .before .add-number .ensures in
+    omega (arith, s .pre .0, at-most 20 (s .args .n) (omega arith) (omega arith), a .next, a .long, b .next, b .long)
 
 same-length : tie.Need-same-length
 same-length c = search needs

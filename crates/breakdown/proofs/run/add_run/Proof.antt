@@ -1,59 +1,64 @@
 -- `breakdown::run::add_run` meets its contract.
 -- Assumes nothing.
 use native.Mathlib.Omega.{arith}
-use borrow.Author.Needs.{needs}
 use Rattle.number.proofs.Digits.{at-most}
-use Rattle.breakdown.proofs.Bytes.{byte-short}
-use Rattle.breakdown.proofs.Growing.{grown}
+use Rattle.rules.specs.Texts.{mark}
+use Rattle.breakdown.specs.Words.{Word}
+use Rattle.breakdown.proofs.Bytes.{mark-short}
+use Rattle.breakdown.proofs.Growing.{grown, worded}
+use borrow.Author.Needs.{needs}
 use Rattle.breakdown.proofs.run.add_run.Statement.{statement}
 use Rattle.breakdown.proofs.run.add_run.Tie as tie
 
-mark-byte-requires : tie.Need-mark-byte-requires
-mark-byte-requires c κs = search needs
+mark-word : (c : tie.After-class-word) → Word (mark (c .before .before .args .run .class)) (c .class-word .result)
+mark-word c = rw (c .class-word .ensures) (c .before .before .pre .1 .marks (c .before .before .args .run .class))
 
-add-byte-requires : tie.Need-add-byte-requires
-add-byte-requires c κs = search needs
+class-word-requires : tie.Need-class-word-requires
+class-word-requires c κs = search needs
+
+add-word-requires : tie.Need-add-word-requires
+add-word-requires c κs = (omega (arith, c .before .before .before .pre .0), mark-word (c .before) .short)
 
 add-number-requires : tie.Need-add-number-requires
 add-number-requires c κs =
-    let a = c .before .before .before .add-byte .ensures in
-    omega (arith, c .before .before .before .before .before .before .before .pre, a .next, a .long, byte-short (c .before .before .before .before .before .mark-byte .result))
+    let s = c .before .before .before .before .before .before .before in
+    let a = worded (mark-word (c .before .before .before .before .before)) (c .before .before .before .add-word .ensures) in
+    (omega (arith, s .pre .0, a .next, a .long, mark-short (s .args .run .class)), s .pre .1)
 
-add-byte-requires-2 : tie.Need-add-byte-requires-2
-add-byte-requires-2 c κs =
-    let a = c .before .before .before .before .before .before .before .add-byte .ensures in
-    let b = c .before .before .before .add-number .ensures in
+add-word-requires-2 : tie.Need-add-word-requires-2
+add-word-requires-2 c κs =
     let s = c .before .before .before .before .before .before .before .before .before .before .before in
-    omega (arith, s .pre, a .next, a .long, byte-short (c .before .before .before .before .before .before .before .before .before .mark-byte .result), b .next, b .long, at-most 20 (s .args .run .length) (omega arith) (omega arith))
+    let a = worded (mark-word (c .before .before .before .before .before .before .before .before .before)) (c .before .before .before .before .before .before .before .add-word .ensures) in
+    let b = c .before .before .before .add-number .ensures in (
+      omega (arith, s .pre .0, a .next, a .long, mark-short (s .args .run .class), b .next, b .long, at-most 20 (s .args .run .length) (omega arith) (omega arith)),
+      mark-word (c .before .before .before .before .before .before .before .before .before) .short,
+    )
 
-star-byte-requires : tie.Need-star-byte-requires
-star-byte-requires c κs = search needs
-
-add-byte-requires-3 : tie.Need-add-byte-requires-3
-add-byte-requires-3 c κs =
-    let a = c .before .before .before .before .before .before .before .before .before .before .before .before .add-byte .ensures in
-    let b = c .before .before .before .before .before .before .before .before .add-number .ensures in
-    let d = c .before .before .before .before .add-byte2 .ensures in
-    let s = c .before .before .before .before .before .before .before .before .before .before .before .before .before .before .before .before in
-    omega (arith, s .pre, a .next, a .long, byte-short (c .before .before .before .before .before .before .before .before .before .before .before .before .before .before .mark-byte .result), b .next, b .long, d .next, d .long, at-most 20 (s .args .run .length) (omega arith) (omega arith))
+add-star-requires : tie.Need-add-star-requires
+add-star-requires c κs =
+    let s = c .before .before .before .before .before .before .before .before .before .before .before .before .before .before .before in
+    let a = worded (mark-word (c .before .before .before .before .before .before .before .before .before .before .before .before .before)) (c .before .before .before .before .before .before .before .before .before .before .before .add-word .ensures) in
+    let b = c .before .before .before .before .before .before .before .add-number .ensures in
+    let d = worded (mark-word (c .before .before .before .before .before .before .before .before .before .before .before .before .before)) (c .before .before .before .add-word2 .ensures) in
+    omega (arith, s .pre .0, a .next, a .long, mark-short (s .args .run .class), b .next, b .long, d .next, d .long, at-most 20 (s .args .run .length) (omega arith) (omega arith))
 
 same-length : tie.Need-same-length
 same-length c = search needs
 
 returns : tie.Need-returns
 returns c =
-    let g = grown _ _ (c .before .before .before .before .before .before .before .add-byte2 .ensures) (c .before .before .add-byte3 .ensures) in
-    rw (← (c .before .before .before .before .before .before .before .before .before .before .before .before .before .before .before .before .before .mark-byte .ensures), ← (c .before .before .before .star-byte .ensures)) (grown _ _ (c .before .before .before .before .before .before .before .before .before .before .before .before .before .before .before .add-byte .ensures) (grown _ _ (c .before .before .before .before .before .before .before .before .before .before .before .add-number .ensures) g))
+    let w = mark-word (c .before .before .before .before .before .before .before .before .before .before .before .before .before .before .before .before) in
+    let d = grown _ _ (worded w (c .before .before .before .before .before .before .add-word2 .ensures)) (c .before .before .add-star .ensures) in
+    grown _ _ (worded w (c .before .before .before .before .before .before .before .before .before .before .before .before .before .before .add-word .ensures)) (grown _ _ (c .before .before .before .before .before .before .before .before .before .before .add-number .ensures) d)
 
 pub add-run-spec : {M : Type 1} → statement M
 add-run-spec =
     tie.close
     (tie.spec
-    mark-byte-requires
-    add-byte-requires
+    class-word-requires
+    add-word-requires
     add-number-requires
-    add-byte-requires-2
-    star-byte-requires
-    add-byte-requires-3
+    add-word-requires-2
+    add-star-requires
     same-length
     returns)

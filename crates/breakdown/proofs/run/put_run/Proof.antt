@@ -1,8 +1,8 @@
 -- `breakdown::run::put_run` meets its contract.
 -- Assumes nothing.
 use native.Mathlib.Omega.{arith}
-use borrow.Author.Needs.{needs}
 use Rattle.breakdown.proofs.Growing.{within}
+use borrow.Author.Needs.{needs}
 use Rattle.breakdown.proofs.run.put_run.Statement.{statement}
 use Rattle.breakdown.proofs.run.put_run.Tie as tie
 
@@ -12,7 +12,7 @@ add-run-requires c κs = search needs
 put-buffer-requires : tie.Need-put-buffer-requires
 put-buffer-requires c κs =
     let g = c .before .before .before .before .add-run .ensures in
-    (within _ (omega arith) g, rw (g .front) (c .before .before .before .before .before .before .before .before .pre .1))
+    (within _ (omega arith) g, rw (g .front) (c .before .before .before .before .before .before .before .before .pre .2))
 
 same-length : tie.Need-same-length
 same-length c = search needs

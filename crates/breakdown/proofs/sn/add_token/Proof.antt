@@ -1,87 +1,77 @@
 -- `breakdown::sn::add_token` meets its contract.
 -- Assumes nothing.
-use Prim.Native.Nat.{_+_, _<_}
 use mathlib.Core.List.{[], _∷_, _++_}
 use native.Mathlib.Omega.{arith}
-use lib.ListN.{length, set}
-use borrow.Author.Needs.{needs}
 use Rattle.number.specs.Digits.{digits}
 use Rattle.number.proofs.Digits.{at-most}
 use Rattle.breakdown.specs.Buffer.{Grown}
 use Rattle.breakdown.specs.SnParts.{side}
-use Rattle.breakdown.proofs.Bytes.{byte-short}
-use Rattle.breakdown.proofs.Growing.{grown, stored, dropped}
+use Rattle.breakdown.specs.Words.{Word}
+use Rattle.breakdown.proofs.Bytes.{side-short}
+use Rattle.breakdown.proofs.Growing.{grown, dropped, worded}
 use Rattle.breakdown.proofs.SnParts.{token-text, token-none}
+use borrow.Author.Needs.{needs}
 use Rattle.breakdown.proofs.sn.add_token.Statement.{statement}
 use Rattle.breakdown.proofs.sn.add_token.Tie as tie
 
-side-byte-requires : tie.Need-side-byte-requires
-side-byte-requires c κs = search needs
+before-word : (c : tie.After-class-word) → Word (side 40 (c .before .before .before .args .class)) (c .class-word .result)
+before-word c = rw (c .class-word .ensures) (c .before .before .before .pre .1 .before (c .before .before .before .args .class))
 
-add-byte-requires : tie.Need-add-byte-requires
-add-byte-requires c κs = search needs
+behind-word : (c : tie.After-class-word2) → Word (side 41 (c .before .before .before .before .before .before .before .before .before .before .before .before .args .class) ++ (32 ∷ [])) (c .class-word2 .result)
+behind-word c = rw (c .class-word2 .ensures) (c .before .before .before .before .before .before .before .before .before .before .before .before .pre .1 .behind (c .before .before .before .before .before .before .before .before .before .before .before .before .args .class))
+
+-- the token, if it is kept
+whole : (c : tie.After-add-word2) → let a = c .before .before .before .before .before .before .before .before .before .before .before .before .before .args in
+    Grown (a .buf .now) (c .add-word2 .last .0) (a .k) (side 40 (a .class) ++ (digits (a .n) ++ (side 41 (a .class) ++ (32 ∷ [])))) (c .add-word2 .result)
+whole c =
+    let d = grown _ _ (c .before .before .before .before .before .add-number .ensures) (worded (behind-word (c .before)) (c .add-word2 .ensures)) in
+    grown _ _ (worded (before-word (c .before .before .before .before .before .before .before .before .before .before)) (c .before .before .before .before .before .before .before .before .before .add-word .ensures)) d
+
+class-word-requires : tie.Need-class-word-requires
+class-word-requires c κs = search needs
+
+add-word-requires : tie.Need-add-word-requires
+add-word-requires c κs = (omega (arith, c .before .before .before .pre .0), before-word c .short)
 
 add-number-requires : tie.Need-add-number-requires
 add-number-requires c κs =
-    let a = c .before .before .before .add-byte .ensures in
-    omega (arith, c .before .before .before .before .before .before .before .pre, a .next, a .long, byte-short (c .before .before .before .before .side-byte .result))
+    let s = c .before .before .before .before .before .before .before in
+    let a = worded (before-word (c .before .before .before .before)) (c .before .before .before .add-word .ensures) in
+    (omega (arith, s .pre .0, a .next, a .long, side-short 40 (s .args .class)), s .pre .1)
 
-side-byte-requires-2 : tie.Need-side-byte-requires-2
-side-byte-requires-2 c κs = search needs
+class-word-requires-2 : tie.Need-class-word-requires-2
+class-word-requires-2 c κs = search needs
 
-add-byte-requires-2 : tie.Need-add-byte-requires-2
-add-byte-requires-2 c κs =
-    let a = c .before .before .before .before .before .before .before .before .add-byte .ensures in
-    let b = c .before .before .before .before .add-number .ensures in
+add-word-requires-2 : tie.Need-add-word-requires-2
+add-word-requires-2 c κs =
     let s = c .before .before .before .before .before .before .before .before .before .before .before .before in
-    omega (arith, s .pre, a .next, a .long, byte-short (c .before .before .before .before .before .before .before .before .before .side-byte .result), b .next, b .long, at-most 20 (s .args .n) (omega arith) (omega arith))
-
--- the space's place
-place : (c : tie.After-buf3) → c .before .add-byte2 .result < length (c .before .add-byte2 .last .0)
-place c =
-    let a = c .before .before .before .before .before .before .before .before .before .before .add-byte .ensures in
-    let b = c .before .before .before .before .before .before .add-number .ensures in
-    let d = c .before .add-byte2 .ensures in
-    let s = c .before .before .before .before .before .before .before .before .before .before .before .before .before .before in
-    omega (arith, s .pre, a .next, a .long, byte-short (c .before .before .before .before .before .before .before .before .before .before .before .side-byte .result), b .next, b .long, at-most 20 (s .args .n) (omega arith) (omega arith), d .next, d .long, byte-short (c .before .before .side-byte2 .result))
-
-slice-write-buf : tie.Need-slice-write-buf
-slice-write-buf c = place (c .before)
-
-add-result : tie.Need-add-result
-add-result c = omega (arith, place (c .before .before))
-
--- the token, if it is kept
-whole : (c : tie.After-buf3) → let s = c .before .before .before .before .before .before .before .before .before .before .before .before .before .before .args in
-    Grown (s .buf .now) (set (c .before .add-byte2 .last .0) (c .before .add-byte2 .result) 32) (s .k)
-    (side 40 (s .class) ++ (digits (s .n) ++ (side 41 (s .class) ++ (32 ∷ [])))) (c .before .add-byte2 .result + 1)
-whole c =
-    let d = grown _ (32 ∷ []) (c .before .add-byte2 .ensures) (stored 32 (place c)) in
-    rw (← (c .before .before .before .before .before .before .before .before .before .before .before .side-byte .ensures), ← (c .before .before .side-byte2 .ensures)) (grown _ _ (c .before .before .before .before .before .before .before .before .before .before .add-byte .ensures) (grown _ _ (c .before .before .before .before .before .before .add-number .ensures) d))
+    let a = worded (before-word (c .before .before .before .before .before .before .before .before .before)) (c .before .before .before .before .before .before .before .before .add-word .ensures) in
+    let b = c .before .before .before .before .add-number .ensures in (
+      omega (arith, s .pre .0, a .next, a .long, side-short 40 (s .args .class), b .next, b .long, at-most 20 (s .args .n) (omega arith) (omega arith)),
+      behind-word c .short,
+    )
 
 same-length : tie.Need-same-length
-same-length c = whole (c .before .before) .long
+same-length c = search needs
 
 returns : tie.Need-returns
-returns c = let s = c .before .before .before .before .before .before .before .before .before .before .before .before .before .before .before .before .args in rw (token-none (s .class) (s .n) (c .if1 .taken)) (dropped _ (omega (arith, c .before .before .before .before .before .before .before .before .before .before .before .before .before .before .before .before .pre)) (whole (c .before .before)))
+returns c = let s = c .before .before .before .before .before .before .before .before .before .before .before .before .before .before .before .before in rw (token-none (s .args .class) (s .args .n) (c .if1 .taken)) (dropped _ (omega (arith, s .pre .0)) (whole (c .before .before .before)))
 
 same-length-2 : tie.Need-same-length-2
-same-length-2 c = whole (c .before .before) .long
+same-length-2 c = search needs
 
 returns-2 : tie.Need-returns-2
-returns-2 c = let s = c .before .before .before .before .before .before .before .before .before .before .before .before .before .before .before .before .args in rw (token-text (s .class) (s .n) (c .if1 .left)) (whole (c .before .before))
+returns-2 c = let a = c .before .before .before .before .before .before .before .before .before .before .before .before .before .before .before .before .args in rw (token-text (a .class) (a .n) (c .if1 .left)) (whole (c .before .before .before))
 
 pub add-token-spec : {M : Type 1} → statement M
 add-token-spec =
     tie.close
     (tie.spec
-    side-byte-requires
-    add-byte-requires
+    class-word-requires
+    add-word-requires
     add-number-requires
-    side-byte-requires-2
-    add-byte-requires-2
-    slice-write-buf
-    add-result
+    class-word-requires-2
+    add-word-requires-2
     same-length
     returns
     same-length-2

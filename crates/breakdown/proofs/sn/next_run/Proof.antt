@@ -1,7 +1,7 @@
 -- `breakdown::sn::next_run` meets its contract.
 -- Assumes nothing.
-use Prim.Native.Nat.{_<_}
-use mathlib.Core.Path.{ap, _∙_}
+use Prim.Native.Nat.{_+_, _<_}
+use mathlib.Core.Path.{_≡_, ap, _∙_}
 use mathlib.Core.Bool.{Bool, cond}
 use mathlib.Core.Logic.{⊎-elim}
 use native.Mathlib.Omega.{arith}
@@ -57,7 +57,7 @@ returns c =
     (λ e.
     let h = g ∙ ap (λ (b : Bool). cond b n 0) e in
     ⊎-elim
-    (λ w. rw (h, w .1) (break-next (s .pre) (eqb-true first 0 e)))
+    (λ w. let two : s .args .i + 1 + 1 ≡ s .args .i + 2 = omega arith in rw (h, w .1, two) (break-next (s .pre) (eqb-true first 0 e)))
     (λ w. absurd (eqb-false first 0 (w .0 .left) (eqb-true first 0 e)))
     (c .before .before .before .if1 .came))
     (λ e.

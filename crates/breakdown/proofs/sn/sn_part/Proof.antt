@@ -16,8 +16,8 @@ same-length-2 c = search needs
 returns : tie.Need-returns
 returns c = rw (c .before .before .before .before .before .before .before .if1 .taken) (c .before .before .before .before .detailed-part .ensures)
 
-joined-part-requires : tie.Need-joined-part-requires
-joined-part-requires c κs = search needs
+dense-joined-part-requires : tie.Need-dense-joined-part-requires
+dense-joined-part-requires c κs = search needs
 
 same-length-3 : tie.Need-same-length-3
 same-length-3 c = search needs
@@ -28,6 +28,18 @@ same-length-4 c = search needs
 returns-2 : tie.Need-returns-2
 returns-2 c = search needs
 
+joined-part-requires : tie.Need-joined-part-requires
+joined-part-requires c κs = search needs
+
+same-length-5 : tie.Need-same-length-5
+same-length-5 c = search needs
+
+same-length-6 : tie.Need-same-length-6
+same-length-6 c = search needs
+
+returns-3 : tie.Need-returns-3
+returns-3 c = search needs
+
 pub sn-part-spec : {M : Type 1} → statement M
 sn-part-spec =
     tie.close
@@ -36,7 +48,11 @@ sn-part-spec =
     same-length
     same-length-2
     returns
-    joined-part-requires
+    dense-joined-part-requires
     same-length-3
     same-length-4
-    returns-2)
+    returns-2
+    joined-part-requires
+    same-length-5
+    same-length-6
+    returns-3)

@@ -1,28 +1,25 @@
 -- `breakdown::standard::put_pieces` meets its contract.
 -- Assumes nothing.
-use Prim.Native.Nat.{suc, _-_, _≤_}
-use mathlib.Core.Path.{_≡_, refl, _∙_}
-use mathlib.Core.List.{[]}
-use native.Mathlib.Numerals.{add-one}
+use Prim.Native.Nat.{_-_, _≤_}
+use mathlib.Core.Path.{_≡_}
 use native.Mathlib.Omega.{arith}
-use lib.ListN.{length}
-use Rattle.number.proofs.Place.{wrote-length}
+use Rattle.breakdown.specs.Buffer.{Added}
 use Rattle.breakdown.specs.Filled.{doneTexts}
 use Rattle.breakdown.proofs.Growing.{within}
-use Rattle.breakdown.proofs.Buffered.{Buffered, buffered-starts, buffered-grows, buffered-room, buffered-flushed, buffered-ends}
-use Rattle.breakdown.proofs.StandardParts.{done-room}
+use Rattle.breakdown.proofs.Added.{added-none, added-out}
+use Rattle.breakdown.proofs.StandardParts.{done-room, done-step}
 use Rattle.breakdown.proofs.standard.put_pieces.Statement.{statement}
 use Rattle.breakdown.proofs.standard.put_pieces.Tie as tie
 
 abbrev Inv-loop : tie.InvT-loop
-Inv-loop lengths stars gaps count signs buf₀ out₀ at place₀ k₀ i₀ buf out place k i =
-    (i ≤ count) × (length buf ≡ length buf₀) × (k ≤ 448) × Buffered out₀ out at place buf k (doneTexts signs i lengths stars gaps)
+Inv-loop lengths stars gaps count signs words buf₀ out₀ to₀ i₀ buf out to i =
+    (i ≤ count) × Added buf₀ out₀ to₀ (doneTexts signs i lengths stars gaps) buf out to
 
 abbrev μ-loop : tie.MeasureT-loop
-μ-loop lengths stars gaps count signs buf₀ out₀ at place₀ k₀ i₀ buf out place k i = count - i
+μ-loop lengths stars gaps count signs words buf₀ out₀ to₀ i₀ buf out to i = count - i
 
 loop-holds : tie.Need-loop-holds Inv-loop μ-loop
-loop-holds c = (omega arith, refl, omega arith, buffered-starts _ 0)
+loop-holds c = (omega arith, added-none (c .before .before .pre .1 .few))
 
 mul-add-piece : tie.Need-mul-add-piece Inv-loop μ-loop
 mul-add-piece c = omega arith
@@ -41,15 +38,17 @@ element-copy-out-add-piece-3 c = omega arith
 
 add-piece-requires : tie.Need-add-piece-requires Inv-loop μ-loop
 add-piece-requires c κs =
-    let i = c .before .before .before .before .before .loop .inv in
-    omega (arith, i .1, i .2, c .before .before .before .before .before .before .before .before .pre .1)
+    let s = c .before .before .before .before .before in
+    let i = s .loop .inv in
+    let p = s .before .before .before .pre .1 in
+    (omega (arith, i .1 .long, i .1 .few, p .long), p .words)
 
 flush-requires : tie.Need-flush-requires Inv-loop μ-loop
 flush-requires c κs =
-    let l = c .before .before .before .before .before .before .before .before .before .before .loop in
+    let i = c .before .before .before .before .before .before .before .before .before .before .loop .inv in
     let p = c .before .before .before .before .before .before .before .before .before .before .before .before .before .pre in
     let g = c .before .before .before .before .add-piece .ensures in
-    (within _ (omega (arith, l .inv .1, l .inv .2, p .1)) g, buffered-room (buffered-grows (l .inv .3) _ g) (done-room _ _ _ _ (suc (l .i)) _ (c .before .before .before .before .before .before .before .before .before .loop-test .taken) (p .2)))
+    (within _ (omega (arith, i .1 .long, i .1 .few, p .1 .long)) g, rw (g .front) (done-room _ _ _ _ _ (i .1) (c .before .before .before .before .before .before .before .before .before .loop-test .taken) (p .2)))
 
 add-i : tie.Need-add-i Inv-loop μ-loop
 add-i c = omega arith
@@ -59,28 +58,21 @@ loop-less c = omega arith
 
 loop-again : tie.Need-loop-again Inv-loop μ-loop
 loop-again c =
-    let i = c .before .before .before .before .before .before .before .before .before .before .before .before .before .loop .inv in
-    let g = c .before .before .before .before .before .before .before .add-piece .ensures in
-    let f = c .before .before .flush .ensures in
-    (omega arith, g .long ∙ i .1, f .few, rw add-one (buffered-flushed (buffered-grows (i .3) _ g) f))
-
-put-buffer-requires : tie.Need-put-buffer-requires Inv-loop μ-loop
-put-buffer-requires c κs =
-    let i = c .before .before .before .loop .inv in
-    let p = c .before .before .before .before .before .before .pre in
-    (omega (arith, i .1, i .2, p .1), buffered-room (i .3) (done-room _ _ _ _ _ _ (i .0) (p .2)))
+    let s = c .before .before .before .before .before .before .before .before .before .before .before .before .before in
+    let a = s .before .before .before .args in
+    (omega arith, done-step (a .signs) (a .lengths .now) (a .stars .now) (a .gaps .now) (s .loop .i) (s .loop .inv .1) (c .before .before .before .before .before .before .before .add-piece .ensures) (c .before .before .flush .ensures))
 
 same-length : tie.Need-same-length Inv-loop μ-loop
-same-length c = c .before .before .before .before .before .before .loop .inv .1
+same-length c = c .before .loop .inv .1 .long
 
 same-length-2 : tie.Need-same-length-2 Inv-loop μ-loop
-same-length-2 c = wrote-length _ [] (buffered-ends (c .before .before .before .before .before .before .loop .inv .3) (c .before .before .put-buffer .ensures))
+same-length-2 c = added-out _ (c .before .loop .inv .1)
 
 returns : tie.Need-returns Inv-loop μ-loop
 returns c =
-    let l = c .before .before .before .before .before .before .loop in
-    let e : l .i ≡ c .before .before .before .before .before .before .before .before .before .args .count = omega arith in
-    (rw (← e) (buffered-ends (l .inv .3) (c .before .before .put-buffer .ensures)), l .inv .1)
+    let l = c .before .loop in
+    let e : l .i ≡ c .before .before .before .before .args .count = omega arith in
+    rw (← e) (l .inv .1)
 
 pub put-pieces-spec : {M : Type 1} → statement M
 put-pieces-spec =
@@ -99,7 +91,6 @@ put-pieces-spec =
     add-i
     loop-less
     loop-again
-    put-buffer-requires
     same-length
     same-length-2
     returns)

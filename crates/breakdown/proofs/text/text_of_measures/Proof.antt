@@ -1,172 +1,43 @@
 -- `breakdown::text::text_of_measures` meets its contract.
 -- Assumes nothing.
-use Prim.Native.Nat.{_-_}
-use mathlib.Core.Path.{_≡_, refl, sym, _∙_}
+use mathlib.Core.Path.{refl, sym}
 use native.Mathlib.Omega.{arith}
 use borrow.Author.Needs.{needs}
-use mathlib.Core.List.{[]}
-use Rattle.number.proofs.Place.{wrote-length}
-use lib.ListN.{length, drop}
-use lib.Seq.{length-take-le}
-use Rattle.rules.specs.Chart.{classes, runs}
-use Rattle.breakdown.specs.Forms.{textOf, openText}
-use Rattle.breakdown.proofs.Reached as Text
-use Rattle.breakdown.proofs.PartByPart.{Along, no-measures, rest, first-class, first-along, first-text, ahead, part-tokens, on, on-text, next-within, as-long, most, at-end}
+use Rattle.breakdown.proofs.Added.{added-ends, room-left}
 use Rattle.breakdown.proofs.text.text_of_measures.Statement.{statement}
 use Rattle.breakdown.proofs.text.text_of_measures.Tie as tie
 
-abbrev Inv-loop : tie.InvT-loop
-Inv-loop m form out₀ at buf₀ cs₀ ns₀ run₀ i₀ place₀ out buf cs ns run i place =
-    (length buf ≡ 512) × (length cs ≡ 256) × (length ns ≡ 256) × Along m form run i × Text.Reached out₀ at (textOf form (runs (classes m))) (openText form run (runs (classes (drop i m)))) out place
+words-requires : tie.Need-words-requires
+words-requires c κs = search needs
 
-abbrev μ-loop : tie.MeasureT-loop
-μ-loop m form out₀ at buf₀ cs₀ ns₀ run₀ i₀ place₀ out buf cs ns run i place = length m - i
+slice-aggregate-measures-text : tie.Need-slice-aggregate-measures-text
+slice-aggregate-measures-text c = refl
 
-put-none-requires : tie.Need-put-none-requires Inv-loop μ-loop
-put-none-requires c κs = rw (no-measures _ _ (c .before .if1 .taken)) at (c .before .before .before .before .pre .1)
+measures-text-requires : tie.Need-measures-text-requires
+measures-text-requires c κs = let s = c .before .before .before .before .before .before in (s .pre .0, record { long = omega arith; few = omega arith; words = c .before .before .before .words .ensures }, s .pre .1)
 
-same-length : tie.Need-same-length Inv-loop μ-loop
+slice-aggregate-put-buffer : tie.Need-slice-aggregate-put-buffer
+slice-aggregate-put-buffer c = sym (c .before .before .before .before .before .measures-text .ensures .long)
+
+put-buffer-requires : tie.Need-put-buffer-requires
+put-buffer-requires c κs =
+    let a = c .before .before .before .before .before .measures-text .ensures in
+    (omega (arith, a .few, a .long), room-left _ a (c .before .before .before .before .before .before .before .before .before .before .before .before .pre .1))
+
+same-length : tie.Need-same-length
 same-length c = search needs
 
-returns : tie.Need-returns Inv-loop μ-loop
-returns c = rw (no-measures _ _ (c .before .before .before .before .if1 .taken)) (c .before .before .put-none .ensures)
-
-token-at-requires : tie.Need-token-at-requires Inv-loop μ-loop
-token-at-requires c κs = search needs
-
-first-run-requires : tie.Need-first-run-requires Inv-loop μ-loop
-first-run-requires c κs = first-class (c .before .before .before .before .pre .0) (omega arith) _ (c .token-at .ensures)
-
-cast-i : tie.Need-cast-i Inv-loop μ-loop
-cast-i c = search needs
-
-loop-holds : tie.Need-loop-holds Inv-loop μ-loop
-loop-holds c =
-    let s = c .before .before .before .before .before .before in
-    let t = c .before .before .token-at .ensures in
-    let g = c .before .first-run .ensures in
-    (refl, refl, refl, first-along (s .pre .0) (omega arith) _ t (s .args .form) g, rw (first-text (s .pre .0) (omega arith) _ t (s .args .form) g) Text.starts)
-
-mul-tokens-into : tie.Need-mul-tokens-into Inv-loop μ-loop
-mul-tokens-into c = search needs
-
-sub-tokens-into : tie.Need-sub-tokens-into Inv-loop μ-loop
-sub-tokens-into c = search needs
-
-part-tokens-into-start : tie.Need-part-tokens-into-start Inv-loop μ-loop
-part-tokens-into-start c = search needs
-
-part-tokens-into-end : tie.Need-part-tokens-into-end Inv-loop μ-loop
-part-tokens-into-end c = search needs
-
-slice-aggregate-tokens-into : tie.Need-slice-aggregate-tokens-into Inv-loop μ-loop
-slice-aggregate-tokens-into c = sym (c .before .before .before .loop .inv .1)
-
-slice-aggregate-tokens-into-2 : tie.Need-slice-aggregate-tokens-into-2 Inv-loop μ-loop
-slice-aggregate-tokens-into-2 c = sym (c .before .before .before .before .loop .inv .2)
-
-tokens-into-requires : tie.Need-tokens-into-requires Inv-loop μ-loop
-tokens-into-requires c κs =
-    let l = c .before .before .before .before .loop .inv in
-    ahead (l .3) (c .before .before .before .before .before .before .before .before .before .before .before .pre .0 .few) (omega arith) (l .2 ∙ sym (l .1)) (omega (arith, l .1))
-
-array-share-prefix-cs : tie.Need-array-share-prefix-cs Inv-loop μ-loop
-array-share-prefix-cs c = search needs
-
-slice-aggregate-text-part : tie.Need-slice-aggregate-text-part Inv-loop μ-loop
-slice-aggregate-text-part c = sym (length-take-le _ _ (c .before .before .before .tokens-into .ensures .fits))
-
-array-share-prefix-ns : tie.Need-array-share-prefix-ns Inv-loop μ-loop
-array-share-prefix-ns c = search needs
-
-slice-aggregate-text-part-2 : tie.Need-slice-aggregate-text-part-2 Inv-loop μ-loop
-slice-aggregate-text-part-2 c =
-    let l = c .before .before .before .before .before .before .before .before .before .loop .inv in
-    let g = c .before .before .before .before .tokens-into .ensures in
-    sym (length-take-le _ _ (omega (arith, g .fits, g .longC, g .longN, l .1, l .2)))
-
-slice-aggregate-text-part-3 : tie.Need-slice-aggregate-text-part-3 Inv-loop μ-loop
-slice-aggregate-text-part-3 c = sym (c .before .before .before .before .before .before .before .before .before .before .loop .inv .0)
-
-text-part-requires : tie.Need-text-part-requires Inv-loop μ-loop
-text-part-requires c κs =
-    let s = c .before .before .before .before .before .before .before .before .before .before .before .before .before .before .before .before .before .before in
-    let l = c .before .before .before .before .before .before .before .before .before .before .before .loop .inv in
-    let g = c .before .before .before .before .before .before .tokens-into .ensures in (
-      part-tokens (l .3) g (as-long g (l .1) (l .2)) (most g (l .1)),
-      l .3 .run,
-      omega (arith, l .3 .small, l .3 .within, s .pre .0 .few),
-      omega (arith, l .0),
-      record { more = _; room = rw (rest (l .3) g) at (Text.room (l .4) (s .pre .1)) },
-    )
-
-add-i : tie.Need-add-i Inv-loop μ-loop
-add-i c =
-    let l = c .before .before .before .before .before .before .before .before .before .before .before .before .before .before .before .before .before .loop .inv in
-    let s = c .before .before .before .before .before .before .before .before .before .before .before .before .before .before .before .before .before .before .before .before .before .before .before .before in
-    omega (arith, next-within (l .3) (c .before .before .before .before .before .before .before .before .before .before .before .before .tokens-into .ensures), s .pre .0 .few)
-
-loop-less : tie.Need-loop-less Inv-loop μ-loop
-loop-less c = omega (arith, next-within (c .before .before .before .before .before .before .before .before .before .before .before .before .before .before .before .before .before .loop .inv .3) (c .before .before .before .before .before .before .before .before .before .before .before .before .tokens-into .ensures), c .before .before .before .before .before .before .before .before .before .before .before .before .tokens-into .ensures .on)
-
-loop-again : tie.Need-loop-again Inv-loop μ-loop
-loop-again c =
-    let l = c .before .before .before .before .before .before .before .before .before .before .before .before .before .before .before .before .before .loop .inv in
-    let g = c .before .before .before .before .before .before .before .before .before .before .before .before .tokens-into .ensures in
-    let w = c .before .before .before .before .before .text-part .ensures in
-    let a = l .3 in
-    let e = on-text a g (w .0 .done) (c .before .before .before .before .before .text-part .result .run) (w .0 .whole) in
-    (omega (arith, l .0), g .longC ∙ l .1, g .longN ∙ l .2, on a g (as-long g (l .1) (l .2)) (most g (l .1)) (w .1), Text.on (l .4) (w .0 .done) _ e (w .0 .wrote))
-
-slice-aggregate-put-run : tie.Need-slice-aggregate-put-run Inv-loop μ-loop
-slice-aggregate-put-run c = sym (c .before .before .before .loop .inv .0)
-
-put-run-requires : tie.Need-put-run-requires Inv-loop μ-loop
-put-run-requires c κs =
-    let l = c .before .before .before .loop .inv in
-    (omega (arith, l .0), rw (at-end (l .3) (c .before .before .loop-test .left)) at (Text.room (l .4) (c .before .before .before .before .before .before .before .before .before .before .pre .1)))
-
-written : tie.Need-returns-2 Inv-loop μ-loop
-written c =
-    let l = c .before .before .before .before .before .before .before .loop .inv in
-    Text.ends (rw (at-end (l .3) (c .before .before .before .before .before .before .loop-test .left)) at (l .4)) (c .before .before .before .put-run .ensures)
-
-same-length-2 : tie.Need-same-length-2 Inv-loop μ-loop
-same-length-2 c = wrote-length _ [] (written c)
-
-returns-2 : tie.Need-returns-2 Inv-loop μ-loop
-returns-2 c = written c
+returns : tie.Need-returns
+returns c = added-ends _ (c .before .before .before .before .before .before .before .before .measures-text .ensures) (c .before .before .put-buffer .ensures)
 
 pub text-of-measures-spec : {M : Type 1} → statement M
 text-of-measures-spec =
     tie.close
     (tie.spec
-    Inv-loop
-    μ-loop
-    put-none-requires
+    words-requires
+    slice-aggregate-measures-text
+    measures-text-requires
+    slice-aggregate-put-buffer
+    put-buffer-requires
     same-length
-    returns
-    token-at-requires
-    first-run-requires
-    cast-i
-    loop-holds
-    mul-tokens-into
-    sub-tokens-into
-    part-tokens-into-start
-    part-tokens-into-end
-    slice-aggregate-tokens-into
-    slice-aggregate-tokens-into-2
-    tokens-into-requires
-    array-share-prefix-cs
-    slice-aggregate-text-part
-    array-share-prefix-ns
-    slice-aggregate-text-part-2
-    slice-aggregate-text-part-3
-    text-part-requires
-    add-i
-    loop-less
-    loop-again
-    slice-aggregate-put-run
-    put-run-requires
-    same-length-2
-    returns-2)
+    returns)

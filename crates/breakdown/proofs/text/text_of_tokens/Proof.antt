@@ -1,37 +1,48 @@
 -- `breakdown::text::text_of_tokens` meets its contract.
 -- Assumes nothing.
-use mathlib.Core.Path.{_∙_}
-use mathlib.Core.List.{[]}
-use Rattle.measures.specs.Scan.{paired}
-use Rattle.breakdown.specs.Runs.{runText}
-use Rattle.breakdown.specs.Forms.{textOf, openText}
+use mathlib.Core.Path.{_≡_}
+use mathlib.Core.List.{[], _++_, append-nil}
 use native.Mathlib.Omega.{arith}
 use borrow.Author.Needs.{needs}
-use Rattle.breakdown.proofs.Reached as Text
-use Rattle.breakdown.proofs.PartByPart.{none-text, class-here, tokens-behind, tokens-text, last-text}
+use Rattle.measures.specs.Scan.{paired}
+use Rattle.breakdown.specs.Runs.{runText}
+use Rattle.breakdown.specs.Forms.{textOf}
+use Rattle.breakdown.proofs.Growing.{within}
+use Rattle.breakdown.proofs.Added.{added, added-ready, added-room, grown-room, grown-added}
+use Rattle.breakdown.proofs.PartByPart.{none-text, class-here, tokens-behind, tokens-text, tokens-all}
 use Rattle.breakdown.proofs.text.text_of_tokens.Statement.{statement}
 use Rattle.breakdown.proofs.text.text_of_tokens.Tie as tie
 
--- all but the last run or piece is written
-reached : (c : tie.After-text-part) →
+-- the text is what the part has added, and the last run or piece
+whole : (c : tie.After-text-part) →
     let a = c .before .before .before .before .before .before .before .before .before .before .before .before .before .args in
-    let r = c .text-part .result in
-    Text.Reached (a .out .now) (a .at) (textOf (a .form) (paired (a .cs .now) (a .ns .now))) (runText (r .run)) (c .text-part .last .1 .1 .1 .1 .1 .0) (r .place)
-reached c =
+    textOf (a .form) (paired (a .cs .now) (a .ns .now)) ≡ c .text-part .ensures .0 .done ++ runText (c .text-part .result .run)
+whole c =
     let s = c .before .before .before .before .before .before .before .before .before .before .before .before .before in
     let w = c .text-part .ensures in
-    let e = tokens-text (s .pre .0) (c .before .before .before .before .before .before .before .before .if1 .left) (s .args .form) (c .before .before .before .before .before .first-run .ensures) in
-    rw (← (last-text (s .args .form) (c .text-part .result .run) (w .1 .run)))
-    (Text.on Text.starts (w .0 .done) (openText (s .args .form) (c .text-part .result .run) []) (e ∙ w .0 .whole []) (w .0 .wrote))
+    tokens-all (s .pre .0) (c .before .before .before .before .before .before .before .before .if1 .left) (s .args .form) (c .before .before .before .before .before .first-run .ensures) (w .0 .done) (w .1 .run) (w .0 .whole)
 
-put-none-requires : tie.Need-put-none-requires
-put-none-requires c κs = let s = c .before .before .before .before .before .before in rw (none-text (s .pre .0) _ (c .before .if1 .taken)) at (s .pre .2)
+add-none-requires : tie.Need-add-none-requires
+add-none-requires c κs = let s = c .before .before .before .before .before .before in omega (arith, s .pre .1 .few, s .pre .1 .long)
+
+flush-requires : tie.Need-flush-requires
+flush-requires c κs =
+    let s = c .before .before .before .before .before .before .before .before .before .before .before in
+    let g = c .before .before .before .before .add-none .ensures in (
+      within _ (omega (arith, s .pre .1 .few, s .pre .1 .long)) g,
+      grown-room _ g [] (rw (append-nil, ← (none-text (s .pre .0) (s .args .form) (c .before .before .before .before .before .before .if1 .taken))) (s .pre .2)),
+    )
 
 same-length : tie.Need-same-length
 same-length c = search needs
 
+same-length-2 : tie.Need-same-length-2
+same-length-2 c = search needs
+
 returns : tie.Need-returns
-returns c = let s = c .before .before .before .before .before .before .before .before .before in rw (none-text (s .pre .0) _ (c .before .before .before .before .if1 .taken)) (c .before .before .put-none .ensures)
+returns c =
+    let s = c .before .before .before .before .before .before .before .before .before .before .before .before .before .before in
+    rw (none-text (s .pre .0) (s .args .form) (c .before .before .before .before .before .before .before .before .before .if1 .taken)) (grown-added _ (c .before .before .before .before .before .before .before .add-none .ensures) (c .before .before .flush .ensures))
 
 shared-slice-read-first-run : tie.Need-shared-slice-read-first-run
 shared-slice-read-first-run c = search needs
@@ -67,26 +78,29 @@ text-part-requires c κs =
     let h = c .before .before .before .before .before .before .before .if1 .left in
     (tokens-behind (s .pre .0) h (s .args .form) g, g .run, omega (arith, g .long, g .small), s .pre .1, record { more = []; room = rw (tokens-text (s .pre .0) h (s .args .form) g) at (s .pre .2) })
 
-put-run-requires : tie.Need-put-run-requires
-put-run-requires c κs =
+add-last-requires : tie.Need-add-last-requires
+add-last-requires c κs =
     let s = c .before .before .before .before .before .before .before .before .before .before .before .before .before .before .before .before .before .before .before in
-    (omega (arith, s .pre .1), Text.room (reached (c .before .before .before .before .before .before)) (s .pre .2))
-
-same-length-2 : tie.Need-same-length-2
-same-length-2 c = search needs
+    let w = c .before .before .before .before .before .before .text-part .ensures .0 .wrote in
+    (added-ready _ w (s .pre .1), added-room _ w _ (rw (whole (c .before .before .before .before .before .before)) at (s .pre .2)))
 
 same-length-3 : tie.Need-same-length-3
 same-length-3 c = search needs
 
+same-length-4 : tie.Need-same-length-4
+same-length-4 c = search needs
+
 returns-2 : tie.Need-returns-2
-returns-2 c = Text.ends (reached (c .before .before .before .before .before .before .before .before .before .before .before)) (c .before .before .before .before .put-run .ensures)
+returns-2 c = let t = c .before .before .before .before .before .before .before .before .before .before .before in rw (whole t) (added _ (t .text-part .ensures .0 .wrote) _ (c .before .before .before .before .add-last .ensures))
 
 pub text-of-tokens-spec : {M : Type 1} → statement M
 text-of-tokens-spec =
     tie.close
     (tie.spec
-    put-none-requires
+    add-none-requires
+    flush-requires
     same-length
+    same-length-2
     returns
     shared-slice-read-first-run
     shared-slice-read-first-run-2
@@ -98,7 +112,7 @@ text-of-tokens-spec =
     part-text-part-start-2
     part-text-part-end-2
     text-part-requires
-    put-run-requires
-    same-length-2
+    add-last-requires
     same-length-3
+    same-length-4
     returns-2)

@@ -1,9 +1,11 @@
 -- `breakdown::text::text_part` meets its contract.
 -- Assumes nothing.
-use mathlib.Core.Path.{sym, refl, _∙_}
+use mathlib.Core.Path.{sym, _∙_}
 use mathlib.Core.Bool.{true≢false}
-use native.Mathlib.Nat.{suc-ne-zero}
+use mathlib.Core.Logic.{⊎-elim}
 use borrow.Author.Needs.{needs}
+use Rattle.breakdown.proofs.Added.{added-out}
+use Rattle.breakdown.proofs.PartByPart.{piece-part}
 use Rattle.breakdown.proofs.text.text_part.Statement.{statement}
 use Rattle.breakdown.proofs.text.text_part.Tie as tie
 
@@ -26,25 +28,35 @@ returns c =
       record { run = record { run = w .1 .run; piece = λ z. absurd (true≢false (sym e ∙ z)) }; small = w .1 .small },
     )
 
-standard-part-requires : tie.Need-standard-part-requires
-standard-part-requires c κs =
-    let p = c .before .before .before .before .before .before .before .pre in
-    let e = c .before .before .if1 .left in
+dense-part-requires : tie.Need-dense-part-requires
+dense-part-requires c κs =
+    let p = c .before .before .before .before .before .before .before .before .pre in
+    let e = c .before .before .before .if1 .left in
     (rw (p .1 .piece e) at (p .0), p .2, p .3, record { more = p .4 .more; room = rw e at (p .4 .room) })
 
+standard-part-requires : tie.Need-standard-part-requires
+standard-part-requires c κs =
+    let p = c .before .before .before .before .before .before .before .before .pre in
+    let e = c .before .before .before .if1 .left in
+    (rw (p .1 .piece e) at (p .0), p .2, p .3, record { more = p .4 .more; room = rw e at (p .4 .room) })
+
+written : tie.Need-returns-2
+written c =
+    let s = c .before .before .before .before .before .before .before .before .args in
+    let e = c .before .before .before .if1 .left in
+    ⊎-elim
+    (λ w. rw (w .8, w .9, w .10) (piece-part (s .form) (s .run) (s .cs .now) (s .ns .now) e (w .3 .result .piece) (w .3 .ensures)))
+    (λ w. rw (w .8, w .9, w .10) (piece-part (s .form) (s .run) (s .cs .now) (s .ns .now) e (w .3 .result .piece) (w .3 .ensures)))
+    (c .before .before .if2 .came)
+
 same-length-3 : tie.Need-same-length-3
-same-length-3 c = search needs
+same-length-3 c = written c .0 .wrote .long
 
 same-length-4 : tie.Need-same-length-4
-same-length-4 c = search needs
+same-length-4 c = added-out _ (written c .0 .wrote)
 
 returns-2 : tie.Need-returns-2
-returns-2 c =
-    let w = c .before .before .before .before .before .standard-part .ensures in
-    let e = c .before .before .before .before .before .before .before .before .if1 .left in (
-      record { done = w .0 .done; whole = λ more. rw e (w .0 .whole more); wrote = w .0 .wrote },
-      record { run = record { run = suc-ne-zero 0; piece = λ z. refl }; small = w .1 },
-    )
+returns-2 c = written c
 
 pub text-part-spec : {M : Type 1} → statement M
 text-part-spec =
@@ -54,6 +66,7 @@ text-part-spec =
     same-length
     same-length-2
     returns
+    dense-part-requires
     standard-part-requires
     same-length-3
     same-length-4

@@ -30,22 +30,25 @@ returns c = rw (c .refused .ensures) (refused _ _ _ _ (answered (c .before .befo
 scan-requires : tie.Need-scan-requires
 scan-requires c κs = let f = accepted (c .before .before .before) (c .before .before .if1 .left) in record { few = f .few; roomC = f .roomC; roomN = f .roomN }
 
+cast-breaks : tie.Need-cast-breaks
+cast-breaks c = search needs
+
 slice-reshare-prefix-put-texts : tie.Need-slice-reshare-prefix-put-texts
-slice-reshare-prefix-put-texts c = withinC (c .before .before .before .before .before .scan .ensures .written)
+slice-reshare-prefix-put-texts c = withinC (c .before .before .before .before .before .before .scan .ensures .written)
 
 slice-aggregate-put-texts : tie.Need-slice-aggregate-put-texts
-slice-aggregate-put-texts c = sym (length-take-le _ _ (withinC (c .before .before .before .before .before .before .scan .ensures .written)))
+slice-aggregate-put-texts c = sym (length-take-le _ _ (withinC (c .before .before .before .before .before .before .before .scan .ensures .written)))
 
 slice-reshare-prefix-put-texts-2 : tie.Need-slice-reshare-prefix-put-texts-2
-slice-reshare-prefix-put-texts-2 c = withinN (c .before .before .before .before .before .before .scan .ensures .written)
+slice-reshare-prefix-put-texts-2 c = withinN (c .before .before .before .before .before .before .before .scan .ensures .written)
 
 slice-aggregate-put-texts-2 : tie.Need-slice-aggregate-put-texts-2
-slice-aggregate-put-texts-2 c = sym (length-take-le _ _ (withinN (c .before .before .before .before .before .before .before .scan .ensures .written)))
+slice-aggregate-put-texts-2 c = sym (length-take-le _ _ (withinN (c .before .before .before .before .before .before .before .before .scan .ensures .written)))
 
 put-texts-requires : tie.Need-put-texts-requires
 put-texts-requires c κs =
-    let f = accepted (c .before .before .before .before .before .before .before .before .before .before .before .before) (c .before .before .before .before .before .before .before .before .before .before .before .if1 .left) in
-    tokened (c .before .before .before .before .before .before .before .before .scan .ensures .written) (f .few) (f .fits)
+    let f = accepted (c .before .before .before .before .before .before .before .before .before .before .before .before .before) (c .before .before .before .before .before .before .before .before .before .before .before .before .if1 .left) in
+    tokened (c .before .before .before .before .before .before .before .before .before .scan .ensures .written) (f .few) (f .fits)
 
 same-length : tie.Need-same-length
 same-length c = search needs
@@ -58,8 +61,8 @@ same-length-3 c = search needs
 
 returns-2 : tie.Need-returns-2
 returns-2 c =
-    let s = c .before .before .before .before .before .before .before .before .before .before .before .scan .ensures in
-    passed _ _ _ _ (answered (c .before .before .before .before .before .before .before .before .before .before .before .before .before .before .before)) (c .before .before .before .before .before .before .before .before .before .before .before .before .before .before .if1 .left) (s .counted) (s .written) (c .before .before .put-texts .ensures)
+    let s = c .before .before .before .before .before .before .before .before .before .before .before .before .scan .ensures in
+    passed _ _ _ _ (answered (c .before .before .before .before .before .before .before .before .before .before .before .before .before .before .before .before)) (c .before .before .before .before .before .before .before .before .before .before .before .before .before .before .before .if1 .left) (s .counted) (s .written) (c .before .before .put-texts .ensures)
 
 pub compute-stream-outputs-spec : {M : Type 1} → statement M
 compute-stream-outputs-spec =
@@ -69,6 +72,7 @@ compute-stream-outputs-spec =
     refused-requires
     returns
     scan-requires
+    cast-breaks
     slice-reshare-prefix-put-texts
     slice-aggregate-put-texts
     slice-reshare-prefix-put-texts-2

@@ -9,9 +9,7 @@ class-number-requires : tie.Need-class-number-requires
 class-number-requires c κs = search needs
 
 returns : tie.Need-returns
-returns c =
-    let a = c .before .before .before .args in
-    symbol-5 (a .class) _ (a .length) (a .star) _ (c .before .class-number .ensures) (c .if1 .taken)
+returns c = let a = c .before .before .before .args in symbol-5 (a .class) _ (a .length) (a .star) _ (c .before .class-number .ensures) (c .if1 .taken)
 
 run-length-requires : tie.Need-run-length-requires
 run-length-requires c κs = search needs
@@ -20,6 +18,9 @@ returns-2 : tie.Need-returns-2
 returns-2 c =
     let a = c .before .before .before .before .before .args in
     symbol-4 (a .class) _ (a .length) (a .star) _ (c .before .before .before .class-number .ensures) _ (c .before .run-length .ensures .number) (c .before .before .if1 .left) (c .if2 .taken)
+
+words-requires : tie.Need-words-requires
+words-requires c κs = search needs
 
 slice-aggregate-put-run : tie.Need-slice-aggregate-put-run
 slice-aggregate-put-run c = search needs
@@ -32,8 +33,8 @@ same-length c = search needs
 
 returns-3 : tie.Need-returns-3
 returns-3 c =
-    let a = c .before .before .before .before .before .before .before .before .before .before .before .args in
-    symbol-0 (a .class) _ (a .length) (a .star) _ (c .before .before .before .before .before .before .before .before .before .class-number .ensures) _ (c .before .before .before .before .before .before .before .run-length .ensures .number) (c .before .before .before .before .before .before .before .before .if1 .left) (c .before .before .before .before .before .before .if2 .left) (c .before .before .before .put-run .ensures)
+    let a = c .before .before .before .before .before .before .before .before .before .before .before .before .before .args in
+    symbol-0 (a .class) _ (a .length) (a .star) _ (c .before .before .before .before .before .before .before .before .before .before .before .class-number .ensures) _ (c .before .before .before .before .before .before .before .before .before .run-length .ensures .number) (c .before .before .before .before .before .before .before .before .before .before .if1 .left) (c .before .before .before .before .before .before .before .before .if2 .left) (c .before .before .before .put-run .ensures)
 
 pub format-run-symbol-spec : {M : Type 1} → statement M
 format-run-symbol-spec =
@@ -43,6 +44,7 @@ format-run-symbol-spec =
     returns
     run-length-requires
     returns-2
+    words-requires
     slice-aggregate-put-run
     put-run-requires
     same-length
