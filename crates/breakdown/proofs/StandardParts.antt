@@ -273,9 +273,9 @@ module _ (b : Bool) (k n : ℕ) (s : Bool) (cs ns old out : List ℕ) (from : Le
 
 -- ---- a part measured: the text of the tokens before place i has `total` bytes
 
-chosen : (b : Bool) (xs : List ℕ) (r : ℕ) → Measured xs 47 r → (cond b r 0 ≡ length (cond b xs [])) × (cond b r 0 ≤ 47)
-chosen true xs r h = (h .number, h .short)
-chosen false xs r h = (refl, omega arith)
+-- nothing has no bytes
+pub nothing : Measured [] 47 0
+nothing = record { number = refl; short = omega arith }
 
 module _ (b : Bool) (k n : ℕ) (s : Bool) (cs ns : List ℕ) where
   pub record Counting (total i m : ℕ) (t : Bool) : Type 0 where
@@ -288,18 +288,13 @@ module _ (b : Bool) (k n : ℕ) (s : Bool) (cs ns : List ℕ) where
   counting-starts h = record { standing = standing-first h; small = omega arith; short = omega arith; sum = λ more. omega arith }
 
   module _ {total i m : ℕ} {t : Bool} (p : Counting total i m t) where
-    pub counting-turn : {wide x d r : ℕ} {u : Bool} → wide ≡ gapOf (getD cs i 0) (getD ns i 0) → i < length cs → getD ns i 0 < 4294967296 → Measured (doneText b m t (getD ns i 0)) 47 x
-        → d ≡ cond (ltb k wide) x 0 → r ≡ cond (ltb k wide) 0 (m + getD ns i 0)
-        → u ≡ cond (ltb k wide) false (eqb (getD cs i 0) 0 || t) → Counting (total + d) (i + 1) r u
-    counting-turn {wide} {x} {d} w l f h a e v =
-        let xs = cond (ltb k wide) (doneText b m t (getD ns i 0)) [] in
-        let z = chosen (ltb k wide) (doneText b m t (getD ns i 0)) x h in
-        let y = turn-step (p .standing) l k m t b w f e v in
+    pub counting-step : {xs : List ℕ} {x sum r : ℕ} {u : Bool} → Step b k cs ns i m t xs (i + 1) r u → Measured xs 47 x → sum ≡ total + x → Counting sum (i + 1) r u
+    counting-step {xs} y h e =
         record {
           standing = y .standing;
           small = omega (arith, p .small, y .small);
-          short = omega (arith, p .short, a, z .1);
-          sum = λ more. p .sum more ∙ rw (y .whole more, length-append xs _) (omega (arith, a, z .0));
+          short = omega (arith, p .short, h .short, e);
+          sum = λ more. p .sum more ∙ rw (y .whole more, length-append xs _) (omega (arith, h .number, e));
         }
 
     pub counting-end : length cs ≤ i → PartMeasured (standardPart b k n s cs ns) (standardFrom b k m t) (47 * length cs) total × (m ≤ n + 4294967296 * length cs)

@@ -8,7 +8,6 @@ use crate::gap::add_in_parens;
 use crate::gap::sign_byte;
 use crate::piece::Piece;
 use crate::piece::fill;
-use crate::piece::piece_on;
 use crate::run::add_star;
 use crate::run::star_length;
 ghost use Prim.Native.Nat.{_+_, _*_, _^_, _≤_};
@@ -238,13 +237,20 @@ pub fn standard_part_length(
     let mut i: usize = 0;
     while i < cs.len() {
         let n = ns[i];
-        let gap = cs[i] == 0;
-        let wide = if gap { n } else { 0 };
-        let shown = limit < wide;
-        let more = done_length(open.length, open.starred, signs, n);
-        total += if shown { more } else { 0 };
-        open = piece_on(open, gap, shown, n);
-        i += 1;
+        let next = i + 1;
+        if cs[i] != 0 {
+            open.length += n as u64;
+        } else if n <= limit {
+            open.length += n as u64;
+            open.starred = true;
+        } else {
+            total += done_length(open.length, open.starred, signs, n);
+            open = Piece {
+                length: 0,
+                starred: false,
+            };
+        }
+        i = next;
     }
     StandardMeasured {
         piece: open,

@@ -1,11 +1,11 @@
 -- `breakdown::standard::standard_part_length` meets its contract.
 -- Assumes nothing.
 use Prim.Native.Nat.{_-_}
-use mathlib.Core.Path.{_∙_}
-use mathlib.Core.Logic.{⊎-elim}
+use native.Mathlib.Nat.{add-zero}
+use mathlib.Core.Path.{refl, sym}
 use native.Mathlib.Omega.{arith}
 use lib.ListN as List
-use Rattle.breakdown.proofs.StandardParts.{Counting, counting-starts, counting-turn, counting-end}
+use Rattle.breakdown.proofs.StandardParts.{Counting, counting-starts, counting-step, counting-end, run-step, over-step, apart-step, nothing}
 use Rattle.breakdown.proofs.standard.standard_part_length.Statement.{statement}
 use Rattle.breakdown.proofs.standard.standard_part_length.Tie as tie
 
@@ -24,39 +24,61 @@ mul-n c = omega arith
 shared-slice-read-n : tie.Need-shared-slice-read-n Inv-loop μ-loop
 shared-slice-read-n c = omega arith
 
-shared-slice-read-gap : tie.Need-shared-slice-read-gap Inv-loop μ-loop
-shared-slice-read-gap c = omega arith
+add-next : tie.Need-add-next Inv-loop μ-loop
+add-next c = omega arith
+
+shared-slice-read-if1 : tie.Need-shared-slice-read-if1 Inv-loop μ-loop
+shared-slice-read-if1 c = omega arith
+
+cast-open : tie.Need-cast-open Inv-loop μ-loop
+cast-open c = omega (arith, c .before .before .shared-slice-known3 .given (c .before .before .before .before .loop .i))
+
+add-open : tie.Need-add-open Inv-loop μ-loop
+add-open c =
+    let l = c .before .before .before .before .before .loop in
+    let i = l .inv in
+    omega (arith, c .before .before .before .shared-slice-known3 .given (l .i), i .small, i .standing .within, i .standing .few, c .before .before .before .before .before .before .before .before .pre .1)
+
+cast-open-2 : tie.Need-cast-open-2 Inv-loop μ-loop
+cast-open-2 c = omega (arith, c .before .before .before .shared-slice-known3 .given (c .before .before .before .before .before .loop .i))
+
+add-open-2 : tie.Need-add-open-2 Inv-loop μ-loop
+add-open-2 c =
+    let l = c .before .before .before .before .before .before .loop in
+    let i = l .inv in
+    omega (arith, c .before .before .before .before .shared-slice-known3 .given (l .i), i .small, i .standing .within, i .standing .few, c .before .before .before .before .before .before .before .before .before .pre .1)
 
 done-length-requires : tie.Need-done-length-requires Inv-loop μ-loop
 done-length-requires c κs = tt
 
 add-total : tie.Need-add-total Inv-loop μ-loop
 add-total c =
-    let i = c .before .before .before .before .before .before .before .loop .inv in
-    let x = c .before .before .done-length .ensures .short in
-    ⊎-elim
-    (λ w. omega (arith, w .1, x, i .short, i .standing .within, i .standing .few))
-    (λ w. omega (arith, w .1, i .short, i .standing .within, i .standing .few))
-    (c .before .if2 .came)
-
-piece-on-requires : tie.Need-piece-on-requires Inv-loop μ-loop
-piece-on-requires c κs =
-    let i = c .before .before .before .before .before .before .before .loop .inv in
-    omega (arith, i .small, i .standing .within, i .standing .few, c .before .before .before .before .before .before .before .before .before .before .pre .1)
-
-add-i : tie.Need-add-i Inv-loop μ-loop
-add-i c = omega arith
+    let i = c .before .before .before .before .before .before .loop .inv in
+    omega (arith, i .short, i .standing .within, i .standing .few, c .done-length .ensures .short)
 
 loop-less : tie.Need-loop-less Inv-loop μ-loop
-loop-less c = omega arith
+loop-less c = omega (arith, c .before .before .before .before .loop-test .taken)
 
 loop-again : tie.Need-loop-again Inv-loop μ-loop
 loop-again c =
-    let l = c .before .before .before .before .before .before .before .before .loop in
-    let o = c .piece-on .ensures in
-    counting-turn _ _ _ _ _ _ (l .inv) (⊎-elim (λ w. w .1 ∙ rw (w .0 .taken)) (λ w. w .1 ∙ rw (w .0 .left)) (c .before .before .before .before .if1 .came))
-    (omega arith) (omega (arith, c .before .before .before .before .before .before .shared-slice-known3 .given (l .i))) (c .before .before .before .done-length .ensures)
-    (⊎-elim (λ w. w .1 ∙ rw (w .0 .taken)) (λ w. w .1 ∙ rw (w .0 .left)) (c .before .before .if2 .came)) (o .0) (o .1)
+    let l = c .before .before .before .before .before .loop in
+    counting-step _ _ _ _ _ _ (l .inv) (run-step (l .inv .standing) (c .before .before .before .before .loop-test .taken) _ _ _ _ (omega (arith, c .before .before .before .shared-slice-known3 .given (l .i))) (c .before .if1 .taken)) nothing (sym (add-zero _))
+
+loop-less-2 : tie.Need-loop-less-2 Inv-loop μ-loop
+loop-less-2 c = omega (arith, c .before .before .before .before .before .loop-test .taken)
+
+loop-again-2 : tie.Need-loop-again-2 Inv-loop μ-loop
+loop-again-2 c =
+    let l = c .before .before .before .before .before .before .loop in
+    counting-step _ _ _ _ _ _ (l .inv) (over-step (l .inv .standing) (c .before .before .before .before .before .loop-test .taken) _ _ _ _ (omega (arith, c .before .before .before .before .shared-slice-known3 .given (l .i))) (omega (arith, c .before .before .if1 .left)) (c .before .if2 .taken)) nothing (sym (add-zero _))
+
+loop-less-3 : tie.Need-loop-less-3 Inv-loop μ-loop
+loop-less-3 c = omega (arith, c .before .before .before .before .before .loop-test .taken)
+
+loop-again-3 : tie.Need-loop-again-3 Inv-loop μ-loop
+loop-again-3 c =
+    let l = c .before .before .before .before .before .before .loop in
+    counting-step _ _ _ _ _ _ (l .inv) (apart-step (l .inv .standing) (c .before .before .before .before .before .loop-test .taken) _ _ _ _ (omega (arith, c .before .before .before .before .shared-slice-known3 .given (l .i))) (omega (arith, c .before .before .if1 .left)) (c .before .if2 .left)) (c .done-length .ensures) refl
 
 returns : tie.Need-returns Inv-loop μ-loop
 returns c = counting-end _ _ _ _ _ _ (c .before .loop .inv) (c .loop-test .left)
@@ -70,11 +92,18 @@ standard-part-length-spec =
     loop-holds
     mul-n
     shared-slice-read-n
-    shared-slice-read-gap
+    add-next
+    shared-slice-read-if1
+    cast-open
+    add-open
+    cast-open-2
+    add-open-2
     done-length-requires
     add-total
-    piece-on-requires
-    add-i
     loop-less
     loop-again
+    loop-less-2
+    loop-again-2
+    loop-less-3
+    loop-again-3
     returns)
