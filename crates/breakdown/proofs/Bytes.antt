@@ -17,7 +17,7 @@ use Rattle.rules.specs.Reduced.{run, gap, signOf}
 use Rattle.rules.specs.Texts.{mark, star, part, word, render}
 use Rattle.breakdown.specs.Put.{byteText}
 use Rattle.breakdown.specs.Sn.{breakItem}
-use Rattle.breakdown.specs.SnParts.{side}
+use Rattle.breakdown.specs.SnParts.{side, SideLength}
 use Rattle.breakdown.specs.Standard.{totalText}
 
 pub byte-text : (b : ℕ) → b ≢ 0 → byteText b ≡ b ∷ []
@@ -50,6 +50,13 @@ mark-one (suc (suc (suc (suc c)))) h = refl
 pub side-short : (b c : ℕ) → length (side b c) ≤ 1
 side-short b zero = byte-short b
 side-short b (suc c) = mark-short (suc c)
+
+pub side-one : (c : ℕ) → c ≢ 1 → SideLength c 1
+side-one zero h = record { left = refl; right = refl; short = omega arith }
+side-one (suc zero) h = absurd (h refl)
+side-one (suc (suc zero)) h = record { left = refl; right = refl; short = omega arith }
+side-one (suc (suc (suc zero))) h = record { left = refl; right = refl; short = omega arith }
+side-one (suc (suc (suc (suc c)))) h = record { left = refl; right = refl; short = omega arith }
 
 pub star-short : (s : Bool) → length (star s) ≤ 1
 star-short true = omega arith

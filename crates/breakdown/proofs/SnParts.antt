@@ -5,7 +5,7 @@ use mathlib.Core.Path.{_≡_, refl, sym, ap, _∙_}
 use mathlib.Core.Bool.{Bool, true, false, _&&_, and-false, and-eq-true-iff}
 use mathlib.Core.Logic.{_≢_, inl, inr}
 use mathlib.Core.List.{List, [], _∷_, _++_, map, map-append, append-assoc, append-nil}
-use native.Mathlib.Nat.{suc-ne-zero}
+use native.Mathlib.Nat.{suc-ne-zero, zero-add}
 use native.Mathlib.Numerals.{add-one}
 use native.Mathlib.Omega.{arith}
 use lib.Dec.{eqb, ltb, leb}
@@ -265,6 +265,12 @@ none-written k t cs ns b h l =
     let o = opened-starts k t b in
     (record { done = []; whole = opened-whole o (omega arith); wrote = added-none l }, opened-ends o (omega arith))
 
+pub none-measured : (k : ℕ) (t : Token) (cs ns : List ℕ) → TokensBehind (class t) cs ns → length cs ≡ 0
+    → PartMeasured (snPart k t cs ns) (snOn k t) (47 * length cs) 0 × OpenRun t cs t
+none-measured k t cs ns b h =
+    let o = opened-starts k t b in
+    (record { whole = λ more. ap length (opened-whole o (omega arith) more) ∙ sym (zero-add _); short = omega arith }, opened-ends o (omega arith))
+
 -- ---- a part is written, run by run
 
 pub record Writing (k : ℕ) (t : Token) (cs ns old out : List ℕ) (from : Left) (buf new : List ℕ) (u : Token) (to : Left) (i : ℕ) : Type 0 where
@@ -347,6 +353,74 @@ pub next-text : (t : Token) (d n : ℕ) (us more : List Token) → Behind (class
 next-text t d n us more b =
     rw (next-shown t d n us more b) (shown-before 0 (dropOnes (t ∷ [])) (shown 0 ((token d n false ∷ us) ++ more)) (some-follow d n us more (b .1)))
 
+-- the token at place i, behind which another follows
+module _ (cs ns : List ℕ) (i c : ℕ) (b : Behind c (drop i (paired cs ns))) (l : length cs ≡ length ns) (h : i + 1 < length cs) where
+  here : drop i (paired cs ns) ≡ token (getD cs i 0) (getD ns i 0) false ∷ drop (suc i) (paired cs ns)
+  here = slices-next cs ns i l (omega arith)
+
+  there : drop (suc i) (paired cs ns) ≡ token (getD cs (suc i) 0) (getD ns (suc i) 0) false ∷ drop (suc (suc i)) (paired cs ns)
+  there = slices-next cs ns (suc i) l (omega arith)
+
+  behind-on : Behind (getD cs i 0) (drop (suc i) (paired cs ns))
+  behind-on = rw here at b .1
+
+  text-on : (more : List Token) → snOf 0 (drop i (paired cs ns) ++ more)
+      ≡ ended 0 (dropOnes (token (getD cs i 0) (getD ns i 0) false ∷ [])) ++ snOf 0 (drop (suc i) (paired cs ns) ++ more)
+  text-on more =
+      rw (here, there)
+      (next-text (token (getD cs i 0) (getD ns i 0) false) (getD cs (suc i) 0) (getD ns (suc i) 0) (drop (suc (suc i)) (paired cs ns)) more (rw there at behind-on))
+
+-- the last token
+last-token : (cs ns : List ℕ) (m : ℕ) → length cs ≡ length ns → suc m ≡ length cs → drop m (paired cs ns) ≡ token (getD cs m 0) (getD ns m 0) false ∷ []
+last-token cs ns m l h = slices-next cs ns m l (omega arith) ∙ rw (none-left cs ns (suc m) (omega arith))
+
+-- the open run before them
+module _ (c n : ℕ) (s : Bool) {cs ns : List ℕ} (b : TokensBehind c cs ns) (h : length cs ≢ 0) where
+  first-text : (more : List Token) → snPart 0 (token c n s) cs ns more ≡ (word (run c n s) ++ (32 ∷ [])) ++ snOf 0 (paired cs ns ++ more)
+  first-text more =
+      let e : paired cs ns ≡ token (getD cs 0 0) (getD ns 0 0) false ∷ drop 1 (paired cs ns) = slices-next cs ns 0 (b .long) (omega arith) in
+      rw e
+      (next-text (token c n s) (getD cs 0 0) (getD ns 0 0) (drop 1 (paired cs ns)) more (rw e at (b .behind))
+      ∙ rw (drop-run (token c n s) [] (b .run), alone-text 0 c n s 0 (b .run)))
+
+-- ---- a part is measured, token by token
+
+-- `start` bytes and the text of the tokens: `total` bytes, and the text of those from place i on
+pub record Summing (cs ns : List ℕ) (start total i : ℕ) : Type 0 where
+  pub sum : (more : List Token) → start + length (snOf 0 (paired cs ns ++ more)) ≡ total + length (snOf 0 (drop i (paired cs ns) ++ more))
+  pub earlier : ℕ
+  pub behind : Behind earlier (drop i (paired cs ns))
+  pub short : total ≤ start + 23 * i
+
+pub summing-starts : (cs ns : List ℕ) (start c : ℕ) → Behind c (paired cs ns) → Summing cs ns start start 0
+summing-starts cs ns start c b = record { sum = λ more. refl; earlier = c; behind = b; short = omega arith }
+
+module _ {cs ns : List ℕ} {start total i : ℕ} (w : Summing cs ns start total i) where
+  pub summing-next : length cs ≡ length ns → i + 1 < length cs → {x : ℕ} → Measured (ended 0 (dropOnes (token (getD cs i 0) (getD ns i 0) false ∷ []))) 23 x
+      → Summing cs ns start (total + x) (i + 1)
+  summing-next l h {x} m =
+      let chunk = ended 0 (dropOnes (token (getD cs i 0) (getD ns i 0) false ∷ [])) in
+      rw add-one
+      (record {
+        sum = λ more. omega (arith, w .sum more, ap {B = ℕ} length (text-on cs ns i (w .earlier) (w .behind) l h more), length-append chunk (snOf 0 (drop (suc i) (paired cs ns) ++ more)), m .number);
+        earlier = getD cs i 0;
+        behind = behind-on cs ns i (w .earlier) (w .behind) l h;
+        short = omega (arith, w .short, m .short);
+      })
+
+  pub summing-ends : (c n : ℕ) (s : Bool) (b : TokensBehind c cs ns) (h : length cs ≢ 0) → {x : ℕ} → Measured (word (run c n s)) 23 x → start ≡ x + 1
+      → (m : ℕ) → i ≡ m → suc m ≡ length cs → getD ns m 0 < 4294967296
+      → PartMeasured (snPart 0 (token c n s) cs ns) (snOn 0 (token (getD cs m 0) (getD ns m 0) false)) (47 * length cs) total
+      × OpenRun (token c n s) cs (token (getD cs m 0) (getD ns m 0) false)
+  summing-ends c n s b h {x} r z m e f y =
+      let last : drop i (paired cs ns) ≡ token (getD cs m 0) (getD ns m 0) false ∷ [] = rw e (last-token cs ns m (b .long) f) in (
+        record {
+          whole = λ more. omega (arith, ap {B = ℕ} length (first-text c n s b h more), length-append (word (run c n s) ++ (32 ∷ [])) (snOf 0 (paired cs ns ++ more)), length-append (word (run c n s)) (32 ∷ []), rw last at (w .sum more), r .number, z);
+          short = omega (arith, w .short, r .short, z, e, f);
+        },
+        record { run = rw last at (w .behind) .1; small = omega arith },
+      )
+
 -- ---- a part is written, token by token
 
 -- the text of the tokens: `done`, and the text of those from place i on
@@ -363,24 +437,11 @@ listing-starts cs ns buf out from c b l = record { done = []; whole = λ more. r
 module _ {cs ns old out : List ℕ} {from : Left} {buf mid : List ℕ} {to : Left} {i : ℕ} (w : Listing cs ns old out from buf mid to i)
     (l : length cs ≡ length ns) (h : i + 1 < length cs) {new : List ℕ} {full : ℕ}
     (g : Grown buf new (to .left) (ended 0 (dropOnes (token (getD cs i 0) (getD ns i 0) false ∷ []))) full) where
-  here : drop i (paired cs ns) ≡ token (getD cs i 0) (getD ns i 0) false ∷ drop (suc i) (paired cs ns)
-  here = slices-next cs ns i l (omega arith)
-
-  there : drop (suc i) (paired cs ns) ≡ token (getD cs (suc i) 0) (getD ns (suc i) 0) false ∷ drop (suc (suc i)) (paired cs ns)
-  there = slices-next cs ns (suc i) l (omega arith)
-
-  on : Behind (getD cs i 0) (drop (suc i) (paired cs ns))
-  on = rw here at (w .behind) .1
-
   abbrev chunk : List ℕ
   chunk = ended 0 (dropOnes (token (getD cs i 0) (getD ns i 0) false ∷ []))
 
   on-whole : (more : List Token) → snOf 0 (paired cs ns ++ more) ≡ (w .done ++ chunk) ++ snOf 0 (drop (suc i) (paired cs ns) ++ more)
-  on-whole more =
-      w .whole more
-      ∙ rw (here, there)
-      (ap {B = List ℕ} (λ l. w .done ++ l) (next-text (token (getD cs i 0) (getD ns i 0) false) (getD cs (suc i) 0) (getD ns (suc i) 0) (drop (suc (suc i)) (paired cs ns)) more (rw there at on))
-      ∙ sym (append-assoc (w .done) chunk _))
+  on-whole more = w .whole more ∙ ap (λ (l : List ℕ). w .done ++ l) (text-on cs ns i (w .earlier) (w .behind) l h more) ∙ sym (append-assoc (w .done) chunk _)
 
   pub listing-room : PartRoom (λ more. snOf 0 (paired cs ns ++ more)) old out from → Room mid (to .place) (take full new)
   listing-room r = step-room (w .done) (w .wrote) chunk g _ (rw (on-whole (r .more)) at (r .room))
@@ -392,39 +453,35 @@ module _ {cs ns old out : List ℕ} {from : Left} {buf mid : List ℕ} {to : Lef
         done = w .done ++ chunk;
         whole = on-whole;
         earlier = getD cs i 0;
-        behind = on;
+        behind = behind-on cs ns i (w .earlier) (w .behind) l h;
         wrote = step (w .done) (w .wrote) chunk g f;
       })
 
--- the open run before them
+-- the open run comes before them
 module _ (c n : ℕ) (s : Bool) {cs ns : List ℕ} (b : TokensBehind c cs ns) (h : length cs ≢ 0) {buf new : List ℕ} {k full : ℕ}
     (g : Grown buf new k (word (run c n s) ++ (32 ∷ [])) full) where
   abbrev front : List ℕ
   front = word (run c n s) ++ (32 ∷ [])
 
-  first-text : (more : List Token) → snPart 0 (token c n s) cs ns more ≡ front ++ snOf 0 (paired cs ns ++ more)
-  first-text more =
-      let e : paired cs ns ≡ token (getD cs 0 0) (getD ns 0 0) false ∷ drop 1 (paired cs ns) = slices-next cs ns 0 (b .long) (omega arith) in
-      rw e
-      (next-text (token c n s) (getD cs 0 0) (getD ns 0 0) (drop 1 (paired cs ns)) more (rw e at (b .behind))
-      ∙ rw (drop-run (token c n s) [] (b .run), alone-text 0 c n s 0 (b .run)))
+  abbrev opens : (more : List Token) → snPart 0 (token c n s) cs ns more ≡ front ++ snOf 0 (paired cs ns ++ more)
+  opens = first-text c n s b h
 
   pub first-room : {out : List ℕ} {place : ℕ} → PartRoom (snPart 0 (token c n s) cs ns) buf out (goesOn place k) → Room out place (take full new)
-  first-room r = grown-room front g _ (rw (first-text (r .more)) at (r .room))
+  first-room r = grown-room front g _ (rw (opens (r .more)) at (r .room))
 
   module _ {out last : List ℕ} {place : ℕ} {to : Left} (f : Added new out (goesOn place full) [] new last to) where
     pub others-room : PartRoom (snPart 0 (token c n s) cs ns) buf out (goesOn place k) → PartRoom (λ more. snOf 0 (paired cs ns ++ more)) new last to
-    others-room r = record { more = r .more; room = added-room front (grown-added front g f) _ (rw (first-text (r .more)) at (r .room)) }
+    others-room r = record { more = r .more; room = added-room front (grown-added front g f) _ (rw (opens (r .more)) at (r .room)) }
 
     -- the token at m is the last
     pub listing-ends : {buf' new' : List ℕ} {to' : Left} {i : ℕ} → Listing cs ns new last to buf' new' to' i → (m : ℕ) → i ≡ m → suc m ≡ length cs → getD ns m 0 < 4294967296
         → PartWritten (snPart 0 (token c n s) cs ns) (snOn 0 (token (getD cs m 0) (getD ns m 0) false)) buf out (goesOn place k) buf' new' to'
         × OpenRun (token c n s) cs (token (getD cs m 0) (getD ns m 0) false)
     listing-ends {i = i} w m e l x =
-        let last : drop i (paired cs ns) ≡ token (getD cs m 0) (getD ns m 0) false ∷ [] = rw e (slices-next cs ns m (b .long) (omega arith) ∙ rw (none-left cs ns (suc m) (omega arith))) in (
+        let last : drop i (paired cs ns) ≡ token (getD cs m 0) (getD ns m 0) false ∷ [] = rw e (last-token cs ns m (b .long) l) in (
           record {
             done = front ++ w .done;
-            whole = λ more. first-text more ∙ ap (λ (l : List ℕ). front ++ l) (w .whole more) ∙ sym (append-assoc front (w .done) _) ∙ rw last;
+            whole = λ more. opens more ∙ ap (λ (l : List ℕ). front ++ l) (w .whole more) ∙ sym (append-assoc front (w .done) _) ∙ rw last;
             wrote = added front (grown-added front g f) (w .done) (w .wrote);
           },
           record { run = rw last at (w .behind) .1; small = omega arith },

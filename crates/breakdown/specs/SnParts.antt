@@ -52,3 +52,9 @@ pub record RunAt (cs ns : List ℕ) (i g c n next : ℕ) : Type 0 where
 pub record WithBreak (k : ℕ) (t : Token) (g : ℕ) (u : Token) : Type 0 where
   pub shows : shown k (t ∷ breakTokens g) ≡ u ∷ longBreak k g
   pub run : class u ≢ 0
+
+-- r bytes on each side of the length of a token of class c, whichever the parentheses
+pub record SideLength (c r : ℕ) : Type 0 where
+  pub left : r ≡ length (side 40 c)
+  pub right : r ≡ length (side 41 c)
+  pub short : r ≤ 1

@@ -26,7 +26,7 @@ ghost use Rattle.breakdown.specs.Parts.{OpenRun, PartMeasured, PartRoom,
 ghost use Rattle.breakdown.specs.Put.{Measured};
 ghost use Rattle.breakdown.specs.Runs.{runText, runToken};
 ghost use Rattle.breakdown.specs.Sn.{breakTokens, shown};
-ghost use Rattle.breakdown.specs.SnParts.{RunAt, TokenAt, WithBreak, ended, joinClass, longBreak};
+ghost use Rattle.breakdown.specs.SnParts.{RunAt, TokenAt, WithBreak, ended, joinClass, longBreak, SideLength};
 ghost use Rattle.breakdown.specs.Words.{Words};
 
 // The next run, the break before it (0: none), and the place behind it.
@@ -283,8 +283,45 @@ fn ended_length(limit: u32, run: Run, gap: u32) -> usize
     run_length(with_break(limit, run, gap)) + 1 + long_length(limit, gap)
 }
 
-// How long a part of the SN text is: no branch hangs on the tokens but for numbers of 100 and more.
-pub fn sn_part_length(cs: &[u8], ns: &[u32], limit: u32, run: Run) -> Tally
+// How many bytes stand on a side of a token's length: a mark or a parenthesis, but for class 1.
+fn side_length(class: u8) -> usize
+    ensures { λ r. ⌜ SideLength class r ⌝ }
+{
+    if class == 1 { 0 } else { 1 }
+}
+
+// How many bytes `add_token` adds.
+fn token_length(class: u8, n: u32) -> usize
+    ensures { λ r. ⌜ Measured (ended 0 (dropOnes (token class n false ∷ []))) 23 r ⌝ }
+{
+    let side = side_length(class);
+    let whole = number_length(n as u64) + side + side + 1;
+    if (class == 0) & (n == 1) { 0 } else { whole }
+}
+
+// How long a part of a text is in which no runs join.
+fn detailed_part_length(cs: &[u8], ns: &[u32], run: Run) -> Tally
+    requires { ⌜ TokensBehind (run .class) (now cs) (now ns) ⌝ }
+    ensures { λ r. ⌜ PartMeasured (snPart 0 (runToken run) (now (cs .entry)) (now (ns .entry))) (snOn 0 (runToken (r .run))) (47 * length (now (cs .entry))) (r .length) × OpenRun (runToken run) (now (cs .entry)) (runToken (r .run)) ⌝ }
+{
+    if cs.len() == 0 {
+        return Tally { run, length: 0 };
+    }
+    let last = cs.len() - 1;
+    let mut total = run_length(run) + 1;
+    let mut i: usize = 0;
+    while i < last {
+        total += token_length(cs[i], ns[i]);
+        i += 1;
+    }
+    Tally {
+        run: open_run(cs[last], ns[last]),
+        length: total,
+    }
+}
+
+// How long a part of a text is in which runs join: no branch hangs on the tokens but for numbers of 100 and more.
+fn joined_part_length(cs: &[u8], ns: &[u32], limit: u32, run: Run) -> Tally
     requires { ⌜ TokensBehind (run .class) (now cs) (now ns) × (run .length ≤ 2 ^ 62) ⌝ }
     ensures { λ r. ⌜ PartMeasured (snPart limit (runToken run) (now (cs .entry)) (now (ns .entry))) (snOn limit (runToken (r .run))) (47 * length (now (cs .entry))) (r .length) × OpenRun (runToken run) (now (cs .entry)) (runToken (r .run)) ⌝ }
 {
@@ -312,4 +349,15 @@ pub fn sn_part_length(cs: &[u8], ns: &[u32], limit: u32, run: Run) -> Tally
         run: last,
         length: total,
     }
+}
+
+// How long a part of the SN text is.
+pub fn sn_part_length(cs: &[u8], ns: &[u32], limit: u32, run: Run) -> Tally
+    requires { ⌜ TokensBehind (run .class) (now cs) (now ns) × (run .length ≤ 2 ^ 62) ⌝ }
+    ensures { λ r. ⌜ PartMeasured (snPart limit (runToken run) (now (cs .entry)) (now (ns .entry))) (snOn limit (runToken (r .run))) (47 * length (now (cs .entry))) (r .length) × OpenRun (runToken run) (now (cs .entry)) (runToken (r .run)) ⌝ }
+{
+    if limit == 0 {
+        return detailed_part_length(cs, ns, run);
+    }
+    joined_part_length(cs, ns, limit, run)
 }
