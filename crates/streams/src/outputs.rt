@@ -117,8 +117,8 @@ fn refused(number: u32) -> StreamOutputs
     }
 }
 
-// Questions 1, 2, 4, all asked before anything is written. Where there are many short tokens and breaks among them, which the processor
-// cannot foresee, the texts are written without a branch on them.
+// Questions 1, 2, 4, all asked before anything is written. `dense`: many short tokens with breaks among them, which the processor cannot
+// foresee; the texts are then written by loops with fewer branches on the tokens.
 pub fn compute_stream_outputs(
     m: &[u32],
     classes: &mut [u8],
