@@ -1,10 +1,10 @@
 -- Single bytes and short texts, by cases on their numbers.
 -- Assumes nothing.
 use Prim.Native.Nat.{ℕ, zero, suc, _^_, _≤_, _<_}
-use mathlib.Core.Path.{_≡_, refl}
+use mathlib.Core.Path.{_≡_, refl, sym}
 use mathlib.Core.Logic.{_≢_}
 use mathlib.Core.Bool.{Bool, true, false}
-use mathlib.Core.List.{[], _∷_, _++_, append-nil}
+use mathlib.Core.List.{[], _∷_, _++_, append-assoc, append-nil}
 use native.Mathlib.Omega.{arith}
 use lib.Dec.{leb}
 use lib.ListN.{length, length-append}
@@ -64,6 +64,10 @@ star-short false = omega arith
 
 pub run-short : (c n : ℕ) (s : Bool) → n < 2 ^ 64 → length (word (run c n s)) ≤ 23
 run-short c n s h = simp length-append (omega (arith, mark-short c, star-short s, at-most 20 n (omega arith) (omega arith)))
+
+-- a run and a space, from its first byte to its last
+pub ended-run : (c n : ℕ) (s : Bool) → mark c ++ (digits n ++ (mark c ++ (star s ++ bytes " "))) ≡ word (run c n s) ++ bytes " "
+ended-run c n s = sym (simp append-assoc)
 
 pub sign-item : (k n : ℕ) → k ≢ 0 → breakItem k n ≡ signOf 32 n
 sign-item zero n h = absurd (h refl)

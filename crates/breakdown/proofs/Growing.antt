@@ -1,6 +1,6 @@
 -- Laws of `Grown`: one text after the other, and a text of which a part is kept, or nothing.
 -- Assumes nothing.
-use Prim.Native.Nat.{ℕ, _+_, _/_, _%_, _≤_, _<_}
+use Prim.Native.Nat.{ℕ, zero, suc, _+_, _-_, _/_, _%_, _≤_, _<_}
 use mathlib.Core.Path.{_≡_, refl, sym, ap, _∙_}
 use mathlib.Core.List.{List, [], _∷_, _++_, append-assoc, append-nil}
 use native.Mathlib.Nat.{add-zero}
@@ -55,8 +55,23 @@ module _ {old : List ℕ} {k : ℕ} where
   pub dropped : (xs : List ℕ) {new : List ℕ} {r : ℕ} → k ≤ length old → Grown old new k xs r → Grown old new k [] k
   dropped xs h g = rw (add-zero k) at (kept 0 xs h (omega arith) g)
 
+  -- a text without its last byte
+  pub but-last : (xs : List ℕ) (b : ℕ) {new : List ℕ} {r : ℕ} → k ≤ length old → Grown old new k (xs ++ (b ∷ [])) r → Grown old new k xs (r - 1)
+  but-last xs b {new} {r} h g =
+      let l = length-append xs (b ∷ []) in
+      let e : r - 1 ≡ k + length xs = omega (arith, g .next, l) in
+      rw e (rw (take-at xs (b ∷ []) (length xs) refl) at (kept (length xs) (xs ++ (b ∷ [])) h (omega (arith, l)) g))
+
   pub stored : (b : ℕ) → k < length old → Grown old (set old k b) k (b ∷ []) (k + 1)
   stored b h = record { next = refl; front = rw add-one (take-suc-set old k b h); long = length-set old k b }
+
+-- of four bytes, no more than three
+first-of : (l a b c d : ℕ) → l ≤ 3 → take l (a ∷ b ∷ c ∷ d ∷ []) ≡ take l (a ∷ b ∷ c ∷ [])
+first-of zero a b c d s = refl
+first-of (suc zero) a b c d s = refl
+first-of (suc (suc zero)) a b c d s = refl
+first-of (suc (suc (suc zero))) a b c d s = refl
+first-of (suc (suc (suc (suc l)))) a b c d s = absurd (omega arith)
 
 -- two bytes
 pub stored-two : {old : List ℕ} {k : ℕ} (a b : ℕ) → k + 2 ≤ length old → Grown old (set (set old k a) (k + 1) b) k (a ∷ b ∷ []) (k + 2)
@@ -65,6 +80,17 @@ stored-two {old} {k} a b h =
     grown (a ∷ []) (b ∷ []) (stored a (omega arith)) (stored b (omega (arith, length-set old k a))) in
     let e : k + 1 + 1 ≡ k + 2 = omega arith in
     rw e at g
+
+-- three bytes of which the first l are kept, and one behind them
+pub stored-first : {old : List ℕ} {k : ℕ} (l a b c d : ℕ) → k + 4 ≤ length old → l ≤ 3
+    → Grown old (set (set (set (set old k a) (k + 1) b) (k + 2) c) (k + 3) d) k (take l (a ∷ b ∷ c ∷ [])) (k + l)
+stored-first {old} {k} l a b c d h s =
+    let two = set (set old k a) (k + 1) b in
+    let e : k + 2 + 1 ≡ k + 3 = omega arith in
+    let z : length two ≡ length old = length-set (set old k a) (k + 1) b ∙ length-set old k a in
+    let more : Grown two (set (set two (k + 2) c) (k + 3) d) (k + 2) (c ∷ d ∷ []) (k + 2 + 2) = rw e at (stored-two {old = two} {k = k + 2} c d (omega (arith, z))) in
+    let g = kept {old = old} {k = k} l (a ∷ b ∷ c ∷ d ∷ []) (omega arith) (omega arith) (grown (a ∷ b ∷ []) (c ∷ d ∷ []) (stored-two a b (omega arith)) more) in
+    rw (first-of l a b c d s) at g
 
 -- a word's text
 pub worded : {old new : List ℕ} {k r : ℕ} {xs : List ℕ} {w : ℕ} → Word xs w → Grown old new k (wordText w) r → Grown old new k xs r

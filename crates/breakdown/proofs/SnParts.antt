@@ -22,7 +22,7 @@ use Rattle.rules.specs.Texts.{word, strung}
 use Rattle.rules.proofs.Steps.{drop-run, simple-run, short-long}
 use Rattle.measures.specs.Scan.{paired}
 use Rattle.breakdown.specs.Buffer.{Added, Grown}
-use Rattle.breakdown.specs.Put.{byteText, Measured}
+use Rattle.breakdown.specs.Put.{Measured}
 use Rattle.breakdown.specs.Behind.{Behind, firstClass}
 use Rattle.breakdown.specs.Sn.{breakItem, breakTokens, shown}
 use Rattle.breakdown.specs.Parts.{TokensBehind, PartRoom, PartWritten, PartMeasured, OpenRun, spaced, snOf, snPart, snOn}
@@ -146,6 +146,11 @@ module _ {cs ns : List ℕ} {i : ℕ} (a : TokenAt cs ns i) where
           within = rw add-one at run-inside;
         })
 
+-- the next run at the place itself: no break before it
+pub no-break : {cs ns : List ℕ} {i g d n next : ℕ} → RunAt cs ns i g d n next → next ≡ i + 1 → g ≡ 0
+no-break {g = zero} a e = refl
+no-break {g = suc g} a e = absurd (omega (arith, a .on))
+
 -- no run joins where there is no break
 pub adjacent : (k c : ℕ) {cs ns : List ℕ} {i g d n next : ℕ} → RunAt cs ns i g d n next → g ≡ 0 → d ≢ joinClass k c g
 adjacent k c a z e = a .run (e ∙ rw z refl)
@@ -209,10 +214,6 @@ run-item : (f : ℕ → Item) (c n : ℕ) (s : Bool) → c ≢ 0 → item f (tok
 run-item f zero n s r = absurd (r refl)
 run-item f (suc c) n s r = refl
 
-sign-stored : (most n b : ℕ) → byteText b ≡ word (signOf most n) → word (signOf most n) ≡ b ∷ []
-sign-stored most n zero h = absurd (omega (arith, sign-one most n, ap length h))
-sign-stored most n (suc b) h = sym h
-
 module _ (k c n : ℕ) (s : Bool) (g : ℕ) (r : c ≢ 0) where
   pub alone-text : ended k (token c n s ∷ []) ≡ word (run c n s) ++ (32 ∷ [])
   alone-text = rw (run-item (breakItem k) c n s r, append-nil)
@@ -243,10 +244,9 @@ module _ (k c n : ℕ) (s : Bool) (g : ℕ) (r : c ≢ 0) where
   pub adjacent-text : g ≡ 0 → word (run c n s) ++ (32 ∷ []) ≡ ended k (shown k (token c n s ∷ breakTokens g))
   adjacent-text z = sym (ap (ended k) (else-shown (rw z refl)) ∙ group-short (omega (arith, z)))
 
-  pub group-long : 1 ≤ k → k < g → (b : ℕ) → byteText b ≡ word (signOf 32 g)
-      → ended k (token c n s ∷ longBreak k g) ≡ (word (run c n s) ++ (32 ∷ [])) ++ (b ∷ 32 ∷ [])
-  group-long o l b e =
-      rw (lt-ltb 1 g (omega arith), lt-ltb k g l, run-item (breakItem k) c n s r, sign-item k g (λ e. omega arith), sign-stored 32 g b e) refl
+  -- a break that is longer than the limit is shown as a sign
+  pub group-long : 1 ≤ k → k < g → ended k (token c n s ∷ longBreak k g) ≡ (word (run c n s) ++ (32 ∷ [])) ++ (word (signOf 32 g) ++ (32 ∷ []))
+  group-long o l = rw (lt-ltb 1 g (omega arith), lt-ltb k g l, run-item (breakItem k) c n s r, sign-item k g (λ z. omega arith)) (simp append-nil)
 
 -- ---- a token
 

@@ -35,18 +35,20 @@ fn add_long(buf: &mut [u8], k: usize, n: u64) -> usize
     last + 1
 }
 
-// The text of a word.
+// The text of a word. All four bytes are stored, so that it is one store.
 pub fn add_word(buf: &mut [u8], k: usize, w: u32) -> usize
-    requires { ⌜ (k + 2 ≤ length (now buf)) × (w / 65536 ≤ 2) ⌝ }
+    requires { ⌜ (k + 4 ≤ length (now buf)) × (w / 16777216 ≤ 3) ⌝ }
     ensures { λ r. ⌜ Grown (now (buf .entry)) (now (buf .exit)) k (wordText w) r ⌝ }
 {
     buf[k] = (w % 256) as u8;
     buf[k + 1] = (w / 256 % 256) as u8;
-    k + (w / 65536) as usize
+    buf[k + 2] = (w / 65536 % 256) as u8;
+    buf[k + 3] = (w / 16777216) as u8;
+    k + (w / 16777216) as usize
 }
 
 // `n` in base ten. Numbers below 100, the most frequent ones, stand in the table.
-pub fn add_number(buf: &mut [u8], k: usize, n: u64, words: &[u32; 115]) -> usize
+pub fn add_number(buf: &mut [u8], k: usize, n: u64, words: &[u32; 192]) -> usize
     requires { ⌜ (k + 20 ≤ length (now buf)) × Words (now words) ⌝ }
     ensures { λ r. ⌜ Grown (now (buf .entry)) (now (buf .exit)) k (digits n) r ⌝ }
 {

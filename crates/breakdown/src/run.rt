@@ -4,23 +4,27 @@ use crate::buffer::add_number;
 use crate::buffer::add_word;
 use crate::buffer::number_length;
 use crate::buffer::put_buffer;
-use crate::words::class_word;
+use crate::words::end_word;
+use crate::words::word_at;
 ghost use Prim.Native.Nat.{_+_, _≤_, _<_};
 ghost use mathlib.Core.Path.{_≡_};
 ghost use mathlib.Core.Bool.{false};
+ghost use mathlib.Core.List.{_++_};
 ghost use lib.ListN.{length};
 ghost use Rattle.number.specs.Place.{Room, Wrote};
+ghost use Rattle.rules.specs.Bytes.{bytes};
 ghost use Rattle.rules.specs.Texts.{star};
 ghost use Rattle.breakdown.specs.Buffer.{Grown};
 ghost use Rattle.breakdown.specs.Put.{Measured};
 ghost use Rattle.breakdown.specs.Words.{Words};
 ghost use Rattle.breakdown.specs.Runs.{runText};
 
-// A run that may still grow.
+// A run that may still grow. The class is last: where it stood first, it was read back by a wider load than it was stored by, which the processor
+// has to wait for.
 pub struct Run {
-    pub class: u8,
     pub length: u64,
     pub starred: bool,
+    pub class: u8,
 }
 
 pub fn open_run(class: u8, length: u32) -> Run
@@ -54,20 +58,26 @@ pub fn add_star(buf: &mut [u8], k: usize, starred: bool) -> usize
     if starred { k + 1 } else { k }
 }
 
-// A run, in the buffer.
-pub fn add_run(buf: &mut [u8], k: usize, run: Run, words: &[u32; 115]) -> usize
+// A run and a space, in the buffer.
+pub fn add_ended(buf: &mut [u8], k: usize, run: Run, words: &[u32; 192]) -> usize
+    requires { ⌜ (k + 26 ≤ length (now buf)) × Words (now words) ⌝ }
+    ensures { λ r. ⌜ Grown (now (buf .entry)) (now (buf .exit)) k (runText run ++ bytes " ") r ⌝ }
+{
+    let a = add_word(buf, k, word_at(words, 100, 4, run.class as u32));
+    let b = add_number(buf, a, run.length, words);
+    add_word(buf, b, end_word(words, run.class, run.starred))
+}
+
+// .. without the space.
+pub fn add_run(buf: &mut [u8], k: usize, run: Run, words: &[u32; 192]) -> usize
     requires { ⌜ (k + 26 ≤ length (now buf)) × Words (now words) ⌝ }
     ensures { λ r. ⌜ Grown (now (buf .entry)) (now (buf .exit)) k (runText run) r ⌝ }
 {
-    let mark = class_word(words, 100, run.class);
-    let a = add_word(buf, k, mark);
-    let b = add_number(buf, a, run.length, words);
-    let c = add_word(buf, b, mark);
-    add_star(buf, c, run.starred)
+    add_ended(buf, k, run, words) - 1
 }
 
-// .. and from there at a place of the lent slice.
-pub fn put_run(out: &mut [u8], at: usize, buf: &mut [u8], run: Run, words: &[u32; 115]) -> usize
+// A run at a place of the lent slice.
+pub fn put_run(out: &mut [u8], at: usize, buf: &mut [u8], run: Run, words: &[u32; 192]) -> usize
     requires { ⌜ (26 ≤ length (now buf)) × Words (now words) × Room (now out) at (runText run) ⌝ }
     ensures { λ r. ⌜ Wrote (now (out .entry)) (now (out .exit)) at (runText run) r ⌝ }
 {

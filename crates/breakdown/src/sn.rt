@@ -4,27 +4,26 @@ use crate::buffer::add_number;
 use crate::buffer::add_word;
 use crate::buffer::flush;
 use crate::buffer::number_length;
-use crate::gap::sign_byte;
+use crate::gap::sign_word;
 use crate::run::Done;
 use crate::run::Run;
 use crate::run::Tally;
-use crate::run::add_run;
+use crate::run::add_ended;
 use crate::run::open_run;
 use crate::run::run_length;
-use crate::words::class_word;
+use crate::words::word_at;
 ghost use Prim.Native.Nat.{_*_, _+_, _^_, _≤_, _<_};
 ghost use mathlib.Core.Path.{_≡_};
 ghost use mathlib.Core.Bool.{cond, false};
 ghost use mathlib.Core.Logic.{_≢_};
-ghost use mathlib.Core.List.{[], _∷_, _++_};
-ghost use lib.ListN.{length};
-ghost use Rattle.rules.specs.Bytes.{bytes};
+ghost use mathlib.Core.List.{[], _∷_};
+ghost use lib.ListN.{length, getD};
 ghost use Rattle.rules.specs.Chart.{token};
 ghost use Rattle.rules.specs.Reduced.{dropOnes};
 ghost use Rattle.breakdown.specs.Buffer.{Grown, Ready};
 ghost use Rattle.breakdown.specs.Parts.{OpenRun, PartMeasured, PartRoom, PartWritten, TokensBehind, snOn, snPart};
 ghost use Rattle.breakdown.specs.Put.{Measured};
-ghost use Rattle.breakdown.specs.Runs.{runText, runToken};
+ghost use Rattle.breakdown.specs.Runs.{runToken};
 ghost use Rattle.breakdown.specs.Sn.{breakTokens, shown};
 ghost use Rattle.breakdown.specs.SnParts.{RunAt, TokenAt, WithBreak, ended, joinClass, longBreak, SideLength};
 ghost use Rattle.breakdown.specs.Words.{Words};
@@ -61,25 +60,24 @@ fn next_run(cs: &[u8], ns: &[u32], i: usize) -> NextRun
     }
 }
 
-// The same by a branch, which goes the same way again and again in most charts.
-fn next_run_by_branch(cs: &[u8], ns: &[u32], i: usize) -> NextRun
+// Where the next run stands, and the break before it (0: none).
+struct RunPlace {
+    gap: u32,
+    place: usize,
+}
+
+// The same by a branch, which goes the same way again and again in most charts; the run itself is read where it is needed.
+fn run_place(cs: &[u8], ns: &[u32], i: usize) -> RunPlace
     requires { ⌜ TokenAt (now cs) (now ns) i ⌝ }
-    ensures { λ r. ⌜ RunAt (now (cs .entry)) (now (ns .entry)) i (r .gap) (r .class) (r .length) (r .next) ⌝ }
+    ensures { λ r. ⌜ RunAt (now (cs .entry)) (now (ns .entry)) i (r .gap) (getD (now (cs .entry)) (r .place) 0) (getD (now (ns .entry)) (r .place) 0) (r .place + 1) ⌝ }
 {
     if cs[i] == 0 {
-        return NextRun {
+        return RunPlace {
             gap: ns[i],
-            class: cs[i + 1],
-            length: ns[i + 1],
-            next: i + 2,
+            place: i + 1,
         };
     }
-    NextRun {
-        gap: 0,
-        class: cs[i],
-        length: ns[i],
-        next: i + 1,
-    }
+    RunPlace { gap: 0, place: i }
 }
 
 // The class of a run that joins one of `class` over a break of `gap`: 0, which no run has, if none does.
@@ -107,25 +105,14 @@ fn with_break(limit: u32, run: Run, gap: u32) -> Run
     }
 }
 
-// A run and a space.
-fn add_ended(buf: &mut [u8], k: usize, run: Run, words: &[u32; 115]) -> usize
-    requires { ⌜ (k + 27 ≤ length (now buf)) × Words (now words) ⌝ }
-    ensures { λ r. ⌜ Grown (now (buf .entry)) (now (buf .exit)) k (runText run ++ bytes " ") r ⌝ }
-{
-    let a = add_run(buf, k, run, words);
-    buf[a] = b' ';
-    a + 1
-}
-
 // A run with a break behind it over which no run joins, and the sign and a space of a break that is longer than the limit.
-fn add_group(buf: &mut [u8], k: usize, limit: u32, run: Run, gap: u32, words: &[u32; 115]) -> usize
+fn add_group(buf: &mut [u8], k: usize, limit: u32, run: Run, gap: u32, words: &[u32; 192]) -> usize
     requires { ⌜ (k + 29 ≤ length (now buf)) × Words (now words) × (1 ≤ limit) × (run .class ≢ 0) × (run .length + gap < 2 ^ 64) ⌝ }
     ensures { λ r. ⌜ Grown (now (buf .entry)) (now (buf .exit)) k (ended limit (shown limit (runToken run ∷ breakTokens gap))) r ⌝ }
 {
     let a = add_ended(buf, k, with_break(limit, run, gap), words);
-    buf[a] = sign_byte(32, gap);
-    buf[a + 1] = b' ';
-    if gap > limit { a + 2 } else { a }
+    let b = add_word(buf, a, sign_word(words, gap));
+    if limit < gap { b } else { a }
 }
 
 // A part of a text in which runs join.
@@ -134,7 +121,7 @@ fn joined_part(
     ns: &[u32],
     limit: u32,
     run: Run,
-    words: &[u32; 115],
+    words: &[u32; 192],
     buf: &mut [u8],
     out: &mut [u8],
     from: Left,
@@ -146,21 +133,23 @@ fn joined_part(
     let mut to = from;
     let mut i: usize = 0;
     while i < cs.len() {
-        let t = next_run_by_branch(cs, ns, i);
+        let t = run_place(cs, ns, i);
+        let j = t.place;
+        let next = j + 1;
         // right behind the last run nothing joins, and there is no break to show
-        if t.gap == 0 {
+        if j == i {
             let full = add_ended(buf, to.left, last, words);
             to = flush(buf, out, to.place, full);
-            last = open_run(t.class, t.length);
-        } else if t.class == join_class(limit, last.class, t.gap) {
-            last.length += t.gap as u64 + t.length as u64;
+            last = open_run(cs[j], ns[j]);
+        } else if cs[j] == join_class(limit, last.class, t.gap) {
+            last.length += t.gap as u64 + ns[j] as u64;
             last.starred = true;
         } else {
             let full = add_group(buf, to.left, limit, last, t.gap, words);
             to = flush(buf, out, to.place, full);
-            last = open_run(t.class, t.length);
+            last = open_run(cs[j], ns[j]);
         }
-        i = t.next;
+        i = next;
     }
     Done { run: last, to }
 }
@@ -171,7 +160,7 @@ fn dense_joined_part(
     ns: &[u32],
     limit: u32,
     run: Run,
-    words: &[u32; 115],
+    words: &[u32; 192],
     buf: &mut [u8],
     out: &mut [u8],
     from: Left,
@@ -198,13 +187,13 @@ fn dense_joined_part(
 }
 
 // A run or a break, by its length, and a space; nothing for a break of 1.
-fn add_token(buf: &mut [u8], k: usize, class: u8, n: u32, words: &[u32; 115]) -> usize
+fn add_token(buf: &mut [u8], k: usize, class: u8, n: u32, words: &[u32; 192]) -> usize
     requires { ⌜ (k + 26 ≤ length (now buf)) × Words (now words) ⌝ }
     ensures { λ r. ⌜ Grown (now (buf .entry)) (now (buf .exit)) k (ended 0 (dropOnes (token class n false ∷ []))) r ⌝ }
 {
-    let a = add_word(buf, k, class_word(words, 105, class));
+    let a = add_word(buf, k, word_at(words, 105, 4, class as u32));
     let b = add_number(buf, a, n as u64, words);
-    let c = add_word(buf, b, class_word(words, 110, class));
+    let c = add_word(buf, b, word_at(words, 110, 4, class as u32));
     if (class == 0) & (n == 1) { k } else { c }
 }
 
@@ -213,7 +202,7 @@ fn detailed_part(
     cs: &[u8],
     ns: &[u32],
     run: Run,
-    words: &[u32; 115],
+    words: &[u32; 192],
     buf: &mut [u8],
     out: &mut [u8],
     from: Left,
@@ -246,7 +235,7 @@ pub fn sn_part(
     limit: u32,
     dense: bool,
     run: Run,
-    words: &[u32; 115],
+    words: &[u32; 192],
     buf: &mut [u8],
     out: &mut [u8],
     from: Left,

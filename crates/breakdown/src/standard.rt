@@ -2,10 +2,11 @@
 use crate::buffer::Left;
 use crate::buffer::add_byte;
 use crate::buffer::add_number;
+use crate::buffer::add_word;
 use crate::buffer::flush;
 use crate::buffer::number_length;
 use crate::gap::add_in_parens;
-use crate::gap::sign_byte;
+use crate::gap::part_word;
 use crate::piece::Piece;
 use crate::piece::fill;
 use crate::run::add_star;
@@ -18,8 +19,8 @@ ghost use lib.Dec.{eqb};
 ghost use lib.ListN.{length, take};
 ghost use Rattle.number.specs.Place.{Room};
 ghost use Rattle.rules.specs.Bytes.{bytes};
-ghost use Rattle.rules.specs.Reduced.{gap, signOf};
-ghost use Rattle.rules.specs.Texts.{part, word};
+ghost use Rattle.rules.specs.Reduced.{gap};
+ghost use Rattle.rules.specs.Texts.{part};
 ghost use Rattle.breakdown.specs.Buffer.{Added, Grown, Ready};
 ghost use Rattle.breakdown.specs.Filled.{doneText, doneTexts};
 ghost use Rattle.breakdown.specs.Parts.{PartMeasured, PartRoom, PartWritten, TokensBehind, standardFrom, standardPart};
@@ -39,27 +40,6 @@ pub struct StandardMeasured {
     pub length: usize,
 }
 
-// What stands on both sides of a sign in a standard text.
-fn pad_byte(n: u32) -> u8
-    ensures { λ r. ⌜ part (signOf 31 n) ≡ byteText r ++ (word (signOf 31 n) ++ byteText r) ⌝ }
-{
-    if n <= 31 {
-        return 0;
-    }
-    b' '
-}
-
-// A sign, between spaces if it is "|".
-fn add_sign(buf: &mut [u8], k: usize, n: u32) -> usize
-    requires { ⌜ k + 3 ≤ length (now buf) ⌝ }
-    ensures { λ r. ⌜ Grown (now (buf .entry)) (now (buf .exit)) k (part (signOf 31 n)) r ⌝ }
-{
-    let pad = pad_byte(n);
-    let a = add_byte(buf, k, pad);
-    let b = add_byte(buf, a, sign_byte(31, n));
-    add_byte(buf, b, pad)
-}
-
 // The first byte of a gap by its length.
 fn first_byte(n: u32) -> u8
     ensures { λ r. ⌜ byteText r ≡ cond (eqb n 1) (bytes "-") (bytes " ") ⌝ }
@@ -71,7 +51,7 @@ fn first_byte(n: u32) -> u8
 }
 
 // A gap by its length: "-" for 1, else in parentheses, which are stored anyway: the place says whether they count.
-fn add_length(buf: &mut [u8], k: usize, n: u32, words: &[u32; 115]) -> usize
+fn add_length(buf: &mut [u8], k: usize, n: u32, words: &[u32; 192]) -> usize
     requires { ⌜ (k + 24 ≤ length (now buf)) × Words (now words) ⌝ }
     ensures { λ r. ⌜ Grown (now (buf .entry)) (now (buf .exit)) k (part (gap n)) r ⌝ }
 {
@@ -81,12 +61,12 @@ fn add_length(buf: &mut [u8], k: usize, n: u32, words: &[u32; 115]) -> usize
     if n == 1 { a } else { c }
 }
 
-fn add_gap(buf: &mut [u8], k: usize, signs: bool, n: u32, words: &[u32; 115]) -> usize
+fn add_gap(buf: &mut [u8], k: usize, signs: bool, n: u32, words: &[u32; 192]) -> usize
     requires { ⌜ (k + 24 ≤ length (now buf)) × Words (now words) ⌝ }
     ensures { λ r. ⌜ Grown (now (buf .entry)) (now (buf .exit)) k (part (gapItem signs n)) r ⌝ }
 {
     if signs {
-        return add_sign(buf, k, n);
+        return add_word(buf, k, part_word(words, n));
     }
     add_length(buf, k, n, words)
 }
@@ -99,7 +79,7 @@ fn add_piece(
     starred: bool,
     gap: u32,
     signs: bool,
-    words: &[u32; 115],
+    words: &[u32; 192],
 ) -> usize
     requires { ⌜ (k + 45 ≤ length (now buf)) × Words (now words) ⌝ }
     ensures { λ r. ⌜ Grown (now (buf .entry)) (now (buf .exit)) k (doneText signs n starred gap) r ⌝ }
@@ -116,7 +96,7 @@ fn put_pieces(
     gaps: &[u32; 16],
     count: usize,
     signs: bool,
-    words: &[u32; 115],
+    words: &[u32; 192],
     buf: &mut [u8],
     out: &mut [u8],
     from: Left,
@@ -141,7 +121,7 @@ pub fn standard_part(
     limit: u32,
     signs: bool,
     piece: Piece,
-    words: &[u32; 115],
+    words: &[u32; 192],
     buf: &mut [u8],
     out: &mut [u8],
     from: Left,
@@ -180,7 +160,7 @@ pub fn dense_part(
     limit: u32,
     signs: bool,
     piece: Piece,
-    words: &[u32; 115],
+    words: &[u32; 192],
     buf: &mut [u8],
     out: &mut [u8],
     from: Left,

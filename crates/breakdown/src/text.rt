@@ -26,32 +26,37 @@ ghost use Rattle.breakdown.specs.Parts.{Tokens, TokensBehind, PartRoom, 
 ghost use Rattle.breakdown.specs.Forms.{textOf, openText, partText, Open, OpenNext, FirstRun, ActiveMeasures};
 ghost use Rattle.breakdown.specs.Runs.{runText};
 
-// One part of a text; the run or piece that is open behind it is answered.
+// One part of a text, of the form that sn, limit and signs say; the run or piece that is open behind it is answered. The form and the place are passed
+// as numbers: a struct that is passed on is copied by wider loads than it was stored by, which the processor has to wait for.
 fn text_part(
     cs: &[u8],
     ns: &[u32],
-    form: Form,
+    sn: bool,
+    limit: u32,
+    signs: bool,
     dense: bool,
     run: Run,
-    words: &[u32; 115],
+    words: &[u32; 192],
     buf: &mut [u8],
     out: &mut [u8],
-    from: Left,
+    place: usize,
+    left: usize,
 ) -> Done
-    requires { ⌜ TokensBehind (run .class) (now cs) (now ns) × Open form run × (run .length ≤ 2 ^ 62) × Ready (now buf) (from .left) (now words) × PartRoom (partText form run (now cs) (now ns)) (now buf) (now out) from ⌝ }
-    ensures { λ r. ⌜ PartWritten (partText form run (now (cs .entry)) (now (ns .entry))) (openText form (r .run)) (now (buf .entry)) (now (out .entry)) from (now (buf .exit)) (now (out .exit)) (r .to) × OpenNext form run (length (now (cs .entry))) (r .run) ⌝ }
+    requires { ⌜ TokensBehind (run .class) (now cs) (now ns) × Open (record { sn = sn; limit = limit; signs = signs }) run × (run .length ≤ 2 ^ 62) × Ready (now buf) left (now words) × PartRoom (partText (record { sn = sn; limit = limit; signs = signs }) run (now cs) (now ns)) (now buf) (now out) (record { place = place; left = left }) ⌝ }
+    ensures { λ r. ⌜ PartWritten (partText (record { sn = sn; limit = limit; signs = signs }) run (now (cs .entry)) (now (ns .entry))) (openText (record { sn = sn; limit = limit; signs = signs }) (r .run)) (now (buf .entry)) (now (out .entry)) (record { place = place; left = left }) (now (buf .exit)) (now (out .exit)) (r .to) × OpenNext (record { sn = sn; limit = limit; signs = signs }) run (length (now (cs .entry))) (r .run) ⌝ }
 {
-    if form.sn {
-        return sn_part(cs, ns, form.limit, dense, run, words, buf, out, from);
+    let from = Left { place, left };
+    if sn {
+        return sn_part(cs, ns, limit, dense, run, words, buf, out, from);
     }
     let open = Piece {
         length: run.length,
         starred: run.starred,
     };
     let d = if dense {
-        dense_part(cs, ns, form.limit, form.signs, open, words, buf, out, from)
+        dense_part(cs, ns, limit, signs, open, words, buf, out, from)
     } else {
-        standard_part(cs, ns, form.limit, form.signs, open, words, buf, out, from)
+        standard_part(cs, ns, limit, signs, open, words, buf, out, from)
     };
     let last = d.piece;
     let to = d.to;
@@ -89,7 +94,7 @@ fn add_none(form: Form, buf: &mut [u8], k: usize) -> usize
 }
 
 // The last run or piece.
-fn add_last(done: Done, words: &[u32; 115], buf: &mut [u8], out: &mut [u8]) -> Left
+fn add_last(done: Done, words: &[u32; 192], buf: &mut [u8], out: &mut [u8]) -> Left
     requires { ⌜ Ready (now buf) (done .to .left) (now words) × Room (now out) (done .to .place) (take (done .to .left) (now buf) ++ runText (done .run)) ⌝ }
     ensures { λ r. ⌜ Added (now (buf .entry)) (now (out .entry)) (done .to) (runText (done .run)) (now (buf .exit)) (now (out .exit)) r ⌝ }
 {
@@ -105,7 +110,7 @@ pub fn text_of_tokens(
     ns: &[u32],
     form: Form,
     dense: bool,
-    words: &[u32; 115],
+    words: &[u32; 192],
     buf: &mut [u8],
     out: &mut [u8],
     from: Left,
@@ -121,13 +126,16 @@ pub fn text_of_tokens(
     let done = text_part(
         &cs[1..],
         &ns[1..],
-        form,
+        form.sn,
+        form.limit,
+        form.signs,
         dense,
         first,
         words,
         buf,
         out,
-        from,
+        from.place,
+        from.left,
     );
     add_last(done, words, buf, out)
 }
@@ -147,7 +155,7 @@ pub fn text_of_measures(m: &[u32], form: Form, out: &mut [u8], at: usize) -> usi
 fn measures_text(
     m: &[u32],
     form: Form,
-    words: &[u32; 115],
+    words: &[u32; 192],
     buf: &mut [u8],
     out: &mut [u8],
     at: usize,
@@ -172,13 +180,16 @@ fn measures_text(
         let done = text_part(
             &cs[..t.tokens],
             &ns[..t.tokens],
-            form,
+            form.sn,
+            form.limit,
+            form.signs,
             false,
             run,
             words,
             buf,
             out,
-            to,
+            to.place,
+            to.left,
         );
         run = done.run;
         to = done.to;

@@ -3,7 +3,7 @@
 use Prim.Native.Nat.{_/_, _%_}
 use native.Mathlib.Omega.{arith}
 use lib.ListN.{length-set}
-use Rattle.breakdown.proofs.Growing.{kept, stored-two}
+use Rattle.breakdown.proofs.Growing.{stored-first}
 use borrow.Author.Needs.{needs}
 use Rattle.breakdown.proofs.buffer.add_word.Statement.{statement}
 use Rattle.breakdown.proofs.buffer.add_word.Tie as tie
@@ -23,6 +23,24 @@ add-buf c = search needs
 slice-write-buf-2 : tie.Need-slice-write-buf-2
 slice-write-buf-2 c = rw length-set (omega (arith, c .pre .0))
 
+cast-buf-3 : tie.Need-cast-buf-3
+cast-buf-3 c = search needs
+
+add-buf-2 : tie.Need-add-buf-2
+add-buf-2 c = search needs
+
+slice-write-buf-3 : tie.Need-slice-write-buf-3
+slice-write-buf-3 c = rw (length-set, length-set) (omega (arith, c .pre .0))
+
+cast-buf-4 : tie.Need-cast-buf-4
+cast-buf-4 c = search needs
+
+add-buf-3 : tie.Need-add-buf-3
+add-buf-3 c = search needs
+
+slice-write-buf-4 : tie.Need-slice-write-buf-4
+slice-write-buf-4 c = rw (length-set, length-set, length-set) (omega (arith, c .pre .0))
+
 cast-result : tie.Need-cast-result
 cast-result c = search needs
 
@@ -33,7 +51,7 @@ same-length : tie.Need-same-length
 same-length c = search needs
 
 returns : tie.Need-returns
-returns c = kept (c .args .w / 65536) _ (omega (arith, c .pre .0)) (c .pre .1) (stored-two (c .args .w % 256) (c .args .w / 256 % 256) (c .pre .0))
+returns c = let w = c .args .w in stored-first (w / 16777216) (w % 256) (w / 256 % 256) (w / 65536 % 256) (w / 16777216) (c .pre .0) (c .pre .1)
 
 pub add-word-spec : {M : Type 1} → statement M
 add-word-spec =
@@ -44,6 +62,12 @@ add-word-spec =
     cast-buf-2
     add-buf
     slice-write-buf-2
+    cast-buf-3
+    add-buf-2
+    slice-write-buf-3
+    cast-buf-4
+    add-buf-3
+    slice-write-buf-4
     cast-result
     add-result
     same-length

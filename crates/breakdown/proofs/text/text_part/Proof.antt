@@ -45,8 +45,8 @@ written c =
     let s = c .before .before .before .before .before .before .before .before .args in
     let e = c .before .before .before .if1 .left in
     ⊎-elim
-    (λ w. rw (w .8, w .9, w .10) (piece-part (s .form) (s .run) (s .cs .now) (s .ns .now) e (w .3 .result .piece) (w .3 .ensures)))
-    (λ w. rw (w .8, w .9, w .10) (piece-part (s .form) (s .run) (s .cs .now) (s .ns .now) e (w .3 .result .piece) (w .3 .ensures)))
+    (λ w. rw (w .8, w .9, w .10) (piece-part (record { sn = s .sn; limit = s .limit; signs = s .signs }) (s .run) (s .cs .now) (s .ns .now) e (w .3 .result .piece) (w .3 .ensures)))
+    (λ w. rw (w .8, w .9, w .10) (piece-part (record { sn = s .sn; limit = s .limit; signs = s .signs }) (s .run) (s .cs .now) (s .ns .now) e (w .3 .result .piece) (w .3 .ensures)))
     (c .before .before .if2 .came)
 
 same-length-3 : tie.Need-same-length-3

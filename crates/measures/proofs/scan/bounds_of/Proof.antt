@@ -19,9 +19,10 @@ returns-4 : tie.Need-returns-4
 returns-4 c = rw (c .match .keys4) (record { fit = omega arith; same = λ d g h. class-3 d (omega arith) (omega arith) })
 
 returns-5 : tie.Need-returns-5
-returns-5 c =
-    let n = c .match .rest in
-    rw (fourth _ (c .before .pre) (n .0 .0 .0 .1) (n .0 .0 .1) (n .0 .1) (n .1)) (record { fit = omega arith; same = λ d g h. class-4 d (omega arith) })
+returns-5 c = rw (c .match .keys5) (record { fit = omega arith; same = λ d g h. class-4 d (omega arith) })
+
+returns-6 : tie.Need-returns-6
+returns-6 c = let n = c .match .rest in absurd (n .1 (fourth _ (c .before .pre) (n .0 .0 .0 .0 .1) (n .0 .0 .0 .1) (n .0 .0 .1) (n .0 .1)))
 
 pub bounds-of-spec : {M : Type 1} → statement M
-bounds-of-spec = tie.close (tie.spec returns returns-2 returns-3 returns-4 returns-5)
+bounds-of-spec = tie.close (tie.spec returns returns-2 returns-3 returns-4 returns-5 returns-6)

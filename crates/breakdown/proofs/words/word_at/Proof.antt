@@ -1,15 +1,15 @@
--- `breakdown::words::class_word` meets its contract.
+-- `breakdown::words::word_at` meets its contract.
 -- Assumes nothing.
 use Prim.Native.Nat.{min}
 use mathlib.Core.Path.{_≡_, refl, _∙_}
 use mathlib.Core.Logic.{⊎-elim}
 use native.Mathlib.Omega.{arith}
 use borrow.Author.Needs.{needs}
-use Rattle.breakdown.proofs.words.class_word.Statement.{statement}
-use Rattle.breakdown.proofs.words.class_word.Tie as tie
+use Rattle.breakdown.proofs.words.word_at.Statement.{statement}
+use Rattle.breakdown.proofs.words.word_at.Tie as tie
 
 -- the place in the row
-place : (c : tie.Joined1) → c .if1 .i ≡ min (c .before .args .class) 4
+place : (c : tie.Joined1) → c .if1 .i ≡ min (c .before .args .n) (c .before .args .last)
 place c = ⊎-elim (λ w. w .1 ∙ omega (arith, w .0 .taken)) (λ w. w .1 ∙ omega (arith, w .0 .left)) (c .if1 .came)
 
 add-result : tie.Need-add-result
@@ -24,5 +24,5 @@ element-copy-out-result c = omega (arith, place (c .before), c .before .before .
 returns : tie.Need-returns
 returns c = rw (place (c .before .before)) refl
 
-pub class-word-spec : {M : Type 1} → statement M
-class-word-spec = tie.close (tie.spec add-result mul-result element-copy-out-result returns)
+pub word-at-spec : {M : Type 1} → statement M
+word-at-spec = tie.close (tie.spec add-result mul-result element-copy-out-result returns)
