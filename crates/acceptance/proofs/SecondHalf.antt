@@ -2,13 +2,11 @@
 -- Assumes nothing.
 use Prim.Native.Nat.{ℕ, zero, suc, _+_}
 use mathlib.Core.Path.{_≡_, refl, sym, ap, _∙_}
-use mathlib.Core.Bool.{Bool, true, false}
-use mathlib.Core.Logic.{_↔_}
-use mathlib.Core.List.{List, [], _∷_, _++_}
+use mathlib.Core.List.{List, _++_}
 use native.Mathlib.Omega.{arith}
-use lib.ListN.{length, take, drop, replicate}
+use lib.ListN.{length, take, drop}
 use lib.Seq.{take-append-seam}
-use Rattle.number.specs.Questions.{firstNo, accepted, filled}
+use Rattle.number.specs.Questions.{accepted, filled}
 use Rattle.number.specs.declared.Written.{Written}
 use Rattle.rules.specs.Chart.{classes, counts}
 use Rattle.rules.specs.Reduced.{reduced}
@@ -16,7 +14,6 @@ use Rattle.rules.specs.declared.Kind.{Kind}
 use Rattle.rules.specs.declared.Kind.the-variants.{Standard as standard}
 use Rattle.rules.specs.Texts.{text, endToEnd, lengthsOf, passKinds}
 use Rattle.rules.specs.Calls.{levelNumber, labelChoice}
-use Rattle.rules.specs.Demand.{SameStreams}
 use Rattle.rules.specs.declared.StreamBreakdownLevel.{StreamBreakdownLevel}
 use Rattle.rules.specs.declared.StreamBreakdownLevel.the-variants as Level
 use Rattle.rules.specs.declared.LabelChoice.{LabelChoice}

@@ -1,20 +1,16 @@
 -- Whatever an accepted call wrote as the text of a kind is document 01's text.
 -- Assumes nothing.
 use Prim.Native.Nat.{ℕ, zero, suc, _+_}
-use mathlib.Core.Path.{_≡_, refl, sym, ap, _∙_}
-use mathlib.Core.Bool.{false}
+use mathlib.Core.Path.{_≡_, refl, ap, _∙_}
 use mathlib.Core.List.{List, [], _∷_, _++_, append-assoc}
 use native.Mathlib.Omega.{arith}
 use lib.ListN.{length, take, drop}
 use lib.Seq.{take-append-seam, drop-append-seam}
-use Rattle.number.specs.Questions.{accepted, filled, OneText}
-use Rattle.number.specs.declared.Written.{Written}
+use Rattle.number.specs.Questions.{accepted, filled}
 use Rattle.number.proofs.Each.{none, _&_}
 use Rattle.rules.specs.declared.Kind.{Kind}
 use Rattle.rules.specs.declared.Kind.the-variants.{Standard as standard}
 use Rattle.rules.specs.Texts.{text, endToEnd, lengthsOf}
-use Rattle.rules.specs.declared.StreamBreakdownLevel.{StreamBreakdownLevel}
-use Rattle.rules.specs.declared.StreamBreakdownLevel.the-variants as Level
 use Rattle.rules.proofs.Lines.{OneLine, text-line}
 use Rattle.sheet_lines.specs.Sheet.{line, textLines}
 use Rattle.acceptance.specs.SecondHalf.{nth, KindAt, firstLine, afterLine, lineAt}

@@ -6,16 +6,16 @@
 use Prim.Native.Nat.{ℕ}
 use mathlib.Core.Path.{_≡_}
 use mathlib.Core.Logic.{_≢_}
-use mathlib.Core.Bool.{Bool, false}
-use mathlib.Core.List.{List, [], _∷_}
+use mathlib.Core.Bool.{false}
+use mathlib.Core.List.{List, []}
 use lib.ListN.{replicate}
-use Rattle.number.specs.Questions.{firstNo, OneText}
+use Rattle.number.specs.Questions.{OneText}
 use Rattle.number.specs.declared.Written.{Written}
-use Rattle.rules.specs.Chart.{inDomain, noCounts}
+use Rattle.rules.specs.Chart.{noCounts}
 use Rattle.rules.specs.declared.Kind.{Kind}
 use Rattle.rules.specs.declared.StreamSegment.{StreamSegment}
 use Rattle.measures.specs.Answers.{countsAnswer, shareAnswer, alikeAnswer}
-use Rattle.token_view.specs.Promises.{Opening, nthAnswer}
+use Rattle.token_view.specs.Promises.{Opening}
 use Rattle.segments.specs.Promises.{Segmented, noSegment, nthSegment}
 use Rattle.segments.specs.declared.SegmentsAnswer.{SegmentsAnswer}
 use Rattle.record.specs.Promises.{ReadRecord}

@@ -1,14 +1,5 @@
-pub mod Bytes
-pub mod Growing
-pub mod Table
-pub mod Reading
-pub mod Groups
-pub mod Pieces
-pub mod Reached
 pub mod Measures
 pub mod PartByPart
 pub mod Tallied
 pub mod Modes
-pub mod StandardParts
-pub mod Added
-pub mod SnParts
+pub mod TotalText

@@ -8,7 +8,7 @@ use native.Mathlib.Omega.{arith}
 use lib.ListN.{length, getD}
 use Rattle.rules.specs.Chart.{Token, token, class}
 use Rattle.measures.specs.Scan.{paired}
-use Rattle.breakdown.specs.Behind.{Behind}
+use Rattle.text_buffer.specs.Behind.{Behind}
 
 -- the class of the last token, or c if there is none
 abbrev pub lastClass : ℕ → List Token → ℕ

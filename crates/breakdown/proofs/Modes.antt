@@ -24,12 +24,13 @@ use Rattle.rules.specs.declared.StreamBreakdownLevel.{StreamBreakdownLevel}
 use Rattle.rules.specs.declared.StreamBreakdownLevel.the-variants as Level
 use Rattle.rules.proofs.Steps.{joins-long, short-one, short-long, Closed, tokens-closed, active-part}
 use Rattle.measures.specs.Scan.{paired}
-use Rattle.breakdown.specs.Behind.{Behind, Alternates}
-use Rattle.breakdown.specs.Sn.{limitOf, snAt}
-use Rattle.breakdown.specs.Standard.{glue, merged, gapItem, standardOf, totalText}
-use Rattle.breakdown.specs.Parts.{Tokens, spaced, snOf}
+use Rattle.text_buffer.specs.Behind.{Behind, Alternates}
+use Rattle.sn_text.specs.Sn.{limitOf, snAt}
+use Rattle.standard_text.specs.Standard.{glue, merged, gapItem, standardOf, totalText}
+use Rattle.text_buffer.specs.Parts.{Tokens}
+use Rattle.sn_text.specs.SnParts.{spaced, snOf}
 use Rattle.breakdown.specs.Forms.{formOf, isTotal, textOf, ActiveMeasures}
-use Rattle.breakdown.proofs.Reading.{opens-break}
+use Rattle.text_buffer.proofs.Reading.{opens-break}
 
 -- ---- the tokens of a chart alternate
 

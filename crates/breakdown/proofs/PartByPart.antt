@@ -19,18 +19,19 @@ use Rattle.rules.specs.Texts.{word}
 use Rattle.rules.specs.declared.ViewToken.{ViewToken}
 use Rattle.rules.proofs.Steps.{drop-run}
 use Rattle.measures.specs.Scan.{paired, Ahead, FirstTokens}
-use Rattle.breakdown.specs.Behind.{Behind}
-use Rattle.breakdown.specs.Standard.{glue}
-use Rattle.breakdown.specs.Parts.{Tokens, TokensBehind, PartWritten, snOf, standardFrom, standardPart}
-use Rattle.breakdown.specs.Runs.{runText}
+use Rattle.text_buffer.specs.Behind.{Behind}
+use Rattle.standard_text.specs.Standard.{glue, standardFrom, standardPart}
+use Rattle.text_buffer.specs.Parts.{Tokens, TokensBehind, PartWritten}
+use Rattle.sn_text.specs.SnParts.{snOf}
+use Rattle.text_buffer.specs.Runs.{runText}
 use Rattle.breakdown.specs.Forms.{textOf, openText, partText, Open, OpenNext, FirstRun, ActiveMeasures}
-use Rattle.breakdown.specs.declared.buffer.Left.{Left}
+use Rattle.text_buffer.specs.declared.buffer.Left.{Left}
 use Rattle.breakdown.specs.declared.form.Form.{Form}
-use Rattle.breakdown.specs.declared.piece.Piece.{Piece}
-use Rattle.breakdown.specs.declared.run.Run.{Run}
+use Rattle.standard_text.specs.declared.piece.Piece.{Piece}
+use Rattle.text_buffer.specs.declared.run.Run.{Run}
 use Rattle.measures.specs.declared.scan.Taken.{Taken}
 use Rattle.breakdown.proofs.Measures.{lastClass, behind-front, behind-back, behind-any, last-paired, paired-length}
-use Rattle.breakdown.proofs.Reading.{Stepped, stepped}
+use Rattle.text_buffer.proofs.Reading.{Stepped, stepped}
 
 -- ---- the first token
 

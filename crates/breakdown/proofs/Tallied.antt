@@ -15,7 +15,7 @@ use Rattle.measures.specs.declared.scan.Taken.{Taken}
 use Rattle.breakdown.specs.Forms.{textOf, openText, ActiveMeasures}
 use Rattle.breakdown.specs.Lengths.{FirstTally, TallyReady, TallyOn, endedLength}
 use Rattle.breakdown.specs.declared.form.Form.{Form}
-use Rattle.breakdown.specs.declared.run.Tally.{Tally}
+use Rattle.text_buffer.specs.declared.run.Tally.{Tally}
 use Rattle.breakdown.proofs.PartByPart.{Along, first-along, first-text, from, part-tokens, on, rest, at-end}
 
 -- the tally t between two parts, the measures from place i on to come

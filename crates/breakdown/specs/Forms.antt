@@ -11,13 +11,13 @@ use Rattle.rules.specs.declared.Kind.{Kind}
 use Rattle.rules.specs.declared.Kind.the-variants.{Sn as sn, Standard as standard}
 use Rattle.rules.specs.declared.StreamBreakdownLevel.the-variants as Level
 use Rattle.measures.specs.Scan.{paired}
-use Rattle.breakdown.specs.Behind.{Alternates}
-use Rattle.breakdown.specs.Sn.{limitOf}
-use Rattle.breakdown.specs.Standard.{standardOf}
-use Rattle.breakdown.specs.Parts.{snOf, standardFrom}
-use Rattle.breakdown.specs.Runs.{runToken}
+use Rattle.text_buffer.specs.Behind.{Alternates}
+use Rattle.sn_text.specs.Sn.{limitOf}
+use Rattle.standard_text.specs.Standard.{standardOf, standardFrom}
+use Rattle.sn_text.specs.SnParts.{snOf}
+use Rattle.text_buffer.specs.Runs.{runToken}
 use Rattle.breakdown.specs.declared.form.Form.{Form}
-use Rattle.breakdown.specs.declared.run.Run.{Run}
+use Rattle.text_buffer.specs.declared.run.Run.{Run}
 
 abbrev pub snForm : ℕ → Form
 snForm k = record { sn = true; limit = k; signs = false }

@@ -7,13 +7,13 @@ use mathlib.Core.List.{List, [], _∷_}
 use lib.ListN.{length}
 use Rattle.rules.specs.Chart.{Token}
 use Rattle.rules.specs.Reduced.{run}
-use Rattle.breakdown.specs.Parts.{TokensBehind}
-use Rattle.breakdown.specs.Runs.{runText}
+use Rattle.text_buffer.specs.Parts.{TokensBehind}
+use Rattle.text_buffer.specs.Runs.{runText}
 use Rattle.breakdown.specs.Forms.{snForm, standardForm, textOf, openText, partText, Open, OpenNext, FirstRun}
 use Rattle.breakdown.specs.declared.form.Form.{Form}
 use Rattle.breakdown.specs.declared.length.Due.{Due}
 use Rattle.breakdown.specs.declared.length.Six.{Six}
-use Rattle.breakdown.specs.declared.run.Tally.{Tally}
+use Rattle.text_buffer.specs.declared.run.Tally.{Tally}
 
 -- the first token, and nothing before it
 pub record FirstTally (f : Form) (c n : ℕ) (t : Tally) : Type 0 where

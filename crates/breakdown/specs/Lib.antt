@@ -1,12 +1,2 @@
-pub mod Put
-pub mod Behind
-pub mod Sn
-pub mod SnParts
-pub mod Words
-pub mod Buffer
-pub mod Standard
-pub mod Parts
-pub mod Runs
 pub mod Forms
 pub mod Lengths
-pub mod Filled

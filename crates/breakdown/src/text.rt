@@ -1,19 +1,19 @@
 // The text of a form, part by part: from tokens in two slices, or from measures.
-use crate::buffer::Left;
-use crate::buffer::flush;
-use crate::buffer::put_buffer;
 use crate::form::Form;
-use crate::piece::Piece;
-use crate::put::put_no_streams;
-use crate::run::Done;
-use crate::run::Run;
-use crate::run::add_run;
-use crate::sn::sn_part;
-use crate::standard::dense_part;
-use crate::standard::standard_part;
-use crate::words::words;
 use measures::scan::tokens_into;
 use measures::tokens::token_at;
+use sn_text::sn::sn_part;
+use standard_text::piece::Piece;
+use standard_text::standard::dense_part;
+use standard_text::standard::standard_part;
+use text_buffer::buffer::Left;
+use text_buffer::buffer::flush;
+use text_buffer::buffer::put_buffer;
+use text_buffer::put::put_no_streams;
+use text_buffer::run::Done;
+use text_buffer::run::Run;
+use text_buffer::run::add_run;
+use text_buffer::words::words;
 ghost use Prim.Native.Nat.{_+_, _≤_, _^_};
 ghost use mathlib.Core.List.{[], _++_};
 ghost use mathlib.Core.Logic.{_≢_};
@@ -21,10 +21,10 @@ ghost use lib.ListN.{length, take};
 ghost use Rattle.number.specs.Place.{Room, Wrote};
 ghost use Rattle.rules.specs.Chart.{classes, runs};
 ghost use Rattle.measures.specs.Scan.{paired};
-ghost use Rattle.breakdown.specs.Buffer.{Added, Grown, Ready};
-ghost use Rattle.breakdown.specs.Parts.{Tokens, TokensBehind, PartRoom, PartWritten};
+ghost use Rattle.text_buffer.specs.Buffer.{Added, Grown, Ready};
+ghost use Rattle.text_buffer.specs.Parts.{Tokens, TokensBehind, PartRoom, PartWritten};
 ghost use Rattle.breakdown.specs.Forms.{textOf, openText, partText, Open, OpenNext, FirstRun, ActiveMeasures};
-ghost use Rattle.breakdown.specs.Runs.{runText};
+ghost use Rattle.text_buffer.specs.Runs.{runText};
 
 // One part of a text, of the form that sn, limit and signs say; the run or piece that is open behind it is answered. The form and the place are passed
 // as numbers: a struct that is passed on is copied by wider loads than it was stored by, which the processor has to wait for.

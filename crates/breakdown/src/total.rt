@@ -1,12 +1,12 @@
 // The text of level Total, of the number of stream measures.
-use crate::put::put_bytes;
-use crate::put::put_no_streams;
 use number::digit_count;
 use number::put_u64;
+use text_buffer::put::put_bytes;
+use text_buffer::put::put_no_streams;
 ghost use mathlib.Core.Path.{_≡_};
 ghost use lib.ListN.{length};
 ghost use Rattle.number.specs.Place.{Room, Wrote};
-ghost use Rattle.breakdown.specs.Standard.{totalText};
+ghost use Rattle.standard_text.specs.Standard.{totalText};
 
 pub fn total_text(streams: u64, out: &mut [u8], at: usize) -> usize
     requires { ⌜ Room (now out) at (totalText streams) ⌝ }

@@ -10,7 +10,6 @@ use borrow.Author.Tests.{le-leb, lt-leb}
 use Rattle.number.specs.Digits.{digits}
 use Rattle.number.specs.Questions.{firstNo, filled, roomFor, OneText}
 use Rattle.number.specs.Pushed.{Pushed}
-use Rattle.number.specs.declared.Written.{Written}
 use Rattle.number.proofs.Digits.{digits-one, digits-more, length-more, length-some}
 
 module _ (text old : List ℕ) where

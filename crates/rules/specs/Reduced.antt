@@ -10,7 +10,6 @@ pub use Rattle.rules.specs.declared.Kind.{Kind}
 pub use Rattle.rules.specs.declared.Kind.the-variants.{Sn as sn, Standard as standard}
 use Rattle.rules.specs.declared.BreakdownMode.{BreakdownMode}
 use Rattle.rules.specs.declared.BreakdownMode.the-variants as Mode
-use Rattle.rules.specs.declared.StreamBreakdownLevel.{StreamBreakdownLevel}
 use Rattle.rules.specs.declared.StreamBreakdownLevel.the-variants as Level
 
 pub data Sign : Type 0 where

@@ -8,7 +8,7 @@ use native.Mathlib.Omega.{arith}
 use lib.ListN.{length, take, drop, getD, drop-of-length-le}
 use lib.Seq.{drop-cons}
 use Rattle.number.specs.Place.{Room, Wrote}
-use Rattle.breakdown.proofs.Reached as Text
+use Rattle.text_buffer.proofs.Reached as Text
 use Rattle.sheet_lines.specs.Sheet.{line}
 use Rattle.sheet_lines.specs.Steps.{sum, cutLines, Cuts}
 

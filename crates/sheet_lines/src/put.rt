@@ -1,24 +1,13 @@
 // Lines, each put at a place and ended by 0A; the next place is answered.
 use number::put_u64;
 use rules::StreamCounts;
+use text_buffer::put::put_bytes;
 ghost use Rattle.number.specs.Place.{Room, Wrote};
 ghost use mathlib.Core.List.{_++_};
 ghost use Rattle.number.specs.Digits.{digits};
 ghost use Rattle.rules.specs.Bytes.{bytes};
 ghost use Rattle.sheet_lines.specs.Sheet.{line, countsLine};
 ghost use Rattle.sheet_lines.specs.Steps.{AtStart, Roomy, refusal, led, cutLines, Cuts};
-
-fn put_bytes(out: &mut [u8], at: usize, text: &[u8]) -> usize
-    requires { ⌜ Room (now out) at (now text) ⌝ }
-    ensures { λ r. ⌜ Wrote (now (out .entry)) (now (out .exit)) at (now (text .entry)) r ⌝ }
-{
-    let mut i: usize = 0;
-    while i < text.len() {
-        out[at + i] = text[i];
-        i += 1;
-    }
-    at + i
-}
 
 pub fn put_line(out: &mut [u8], at: usize, text: &[u8]) -> usize
     requires { ⌜ Room (now out) at (line (now text)) ⌝ }

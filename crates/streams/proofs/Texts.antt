@@ -14,7 +14,7 @@ use Rattle.rules.specs.declared.StreamBreakdownLevel.the-variants as Level
 use Rattle.rules.proofs.Bound.{text-most}
 use Rattle.measures.specs.Domain.{Domain}
 use Rattle.breakdown.specs.Forms.{formOf, isTotal, textOf, ActiveMeasures}
-use Rattle.breakdown.specs.Standard.{totalText}
+use Rattle.standard_text.specs.Standard.{totalText}
 use Rattle.breakdown.proofs.Modes.{part-tokens, active-measures, form-text, total-text}
 
 module _ (m part : List ℕ) (e : part ≡ activePart m) where

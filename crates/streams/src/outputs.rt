@@ -1,19 +1,19 @@
 // The pass: tokens, counts and six texts of a chart.
 use crate::StreamOutputs;
-use breakdown::buffer::Left;
-use breakdown::buffer::put_buffer;
 use breakdown::form::sn_form;
 use breakdown::form::standard_form;
 use breakdown::length::due_of_measures;
 use breakdown::text::text_of_tokens;
-use breakdown::words::words;
 use measures::active::active_range;
 use measures::counts::no_counts;
 use measures::scan::scan;
+use text_buffer::buffer::Left;
+use text_buffer::buffer::put_buffer;
+use text_buffer::words::words;
 ghost use Prim.Native.Nat.{_+_, _*_, _^_, _≤_, _<_};
 ghost use mathlib.Core.Path.{_≡_};
 ghost use mathlib.Core.Bool.{true};
-ghost use Rattle.breakdown.specs.Buffer.{Ready};
+ghost use Rattle.text_buffer.specs.Buffer.{Ready};
 ghost use Rattle.streams.specs.Promises.{Outputs};
 ghost use Rattle.streams.specs.Pass.{FirstNo, Shorter, SixTexts, refusedPass, Tokened};
 

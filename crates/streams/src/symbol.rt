@@ -1,10 +1,10 @@
 // One run as an SN text shows it.
-use breakdown::run::Run;
-use breakdown::run::put_run;
-use breakdown::run::run_length;
-use breakdown::words::words;
 use number::Written;
 use rules::RunDensity;
+use text_buffer::run::Run;
+use text_buffer::run::put_run;
+use text_buffer::run::run_length;
+use text_buffer::words::words;
 ghost use mathlib.Core.Path.{_≡_};
 ghost use Rattle.rules.specs.Chart.{classNumber};
 ghost use Rattle.streams.specs.Promises.{RunSymbol};

@@ -1,7 +1,6 @@
 -- `sheet_lines::print_sheet` meets its contract.
 -- Assumes nothing.
 use borrow.Author.Needs.{needs}
-use borrow.Author.Needs.{needs}
 use Rattle.sheet_lines.proofs.print_sheet.Statement.{statement}
 use Rattle.sheet_lines.proofs.print_sheet.Tie as tie
 

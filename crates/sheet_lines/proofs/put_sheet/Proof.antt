@@ -5,7 +5,6 @@ use native.Mathlib.Omega.{arith}
 use lib.Seq.{length-take-le}
 use Rattle.sheet_lines.proofs.Reading.{too-long, by-record, name-end, name-room, measures-within, sheet-printed}
 use borrow.Author.Needs.{needs}
-use borrow.Author.Needs.{needs}
 use Rattle.sheet_lines.proofs.put_sheet.Statement.{statement}
 use Rattle.sheet_lines.proofs.put_sheet.Tie as tie
 

@@ -3,8 +3,8 @@
 use mathlib.Core.List.{[], append-nil}
 use native.Mathlib.Omega.{arith}
 use borrow.Author.Needs.{needs}
-use Rattle.breakdown.proofs.Growing.{within}
-use Rattle.breakdown.proofs.Added.{grown-room, grown-added}
+use Rattle.text_buffer.proofs.Growing.{within}
+use Rattle.text_buffer.proofs.Added.{grown-room, grown-added}
 use Rattle.breakdown.proofs.text.add_last.Statement.{statement}
 use Rattle.breakdown.proofs.text.add_last.Tie as tie
 

@@ -3,7 +3,7 @@
 use mathlib.Core.Path.{refl, sym}
 use native.Mathlib.Omega.{arith}
 use borrow.Author.Needs.{needs}
-use Rattle.breakdown.proofs.Added.{added-ends, room-left}
+use Rattle.text_buffer.proofs.Added.{added-ends, room-left}
 use Rattle.breakdown.proofs.text.text_of_measures.Statement.{statement}
 use Rattle.breakdown.proofs.text.text_of_measures.Tie as tie
 

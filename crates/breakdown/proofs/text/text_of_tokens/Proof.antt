@@ -5,10 +5,10 @@ use mathlib.Core.List.{[], _++_, append-nil}
 use native.Mathlib.Omega.{arith}
 use borrow.Author.Needs.{needs}
 use Rattle.measures.specs.Scan.{paired}
-use Rattle.breakdown.specs.Runs.{runText}
+use Rattle.text_buffer.specs.Runs.{runText}
 use Rattle.breakdown.specs.Forms.{textOf}
-use Rattle.breakdown.proofs.Growing.{within}
-use Rattle.breakdown.proofs.Added.{added, added-ready, added-room, grown-room, grown-added}
+use Rattle.text_buffer.proofs.Growing.{within}
+use Rattle.text_buffer.proofs.Added.{added, added-ready, added-room, grown-room, grown-added}
 use Rattle.breakdown.proofs.PartByPart.{none-text, class-here, tokens-behind, tokens-text, tokens-all}
 use Rattle.breakdown.proofs.text.text_of_tokens.Statement.{statement}
 use Rattle.breakdown.proofs.text.text_of_tokens.Tie as tie

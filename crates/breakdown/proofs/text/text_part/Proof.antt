@@ -4,7 +4,7 @@ use mathlib.Core.Path.{sym, _∙_}
 use mathlib.Core.Bool.{true≢false}
 use mathlib.Core.Logic.{⊎-elim}
 use borrow.Author.Needs.{needs}
-use Rattle.breakdown.proofs.Added.{added-out}
+use Rattle.text_buffer.proofs.Added.{added-out}
 use Rattle.breakdown.proofs.PartByPart.{piece-part}
 use Rattle.breakdown.proofs.text.text_part.Statement.{statement}
 use Rattle.breakdown.proofs.text.text_part.Tie as tie

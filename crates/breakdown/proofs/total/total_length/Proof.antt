@@ -3,7 +3,7 @@
 use lib.ListN.{length-append}
 use native.Mathlib.Omega.{arith}
 use borrow.Author.Needs.{needs}
-use Rattle.breakdown.proofs.Bytes.{total-none, total-some}
+use Rattle.breakdown.proofs.TotalText.{total-none, total-some}
 use Rattle.breakdown.proofs.total.total_length.Statement.{statement}
 use Rattle.breakdown.proofs.total.total_length.Tie as tie
 

@@ -2,7 +2,7 @@
 -- Assumes nothing.
 use borrow.Author.Needs.{needs}
 use Rattle.number.proofs.Place.{room-first, room-next, wrote}
-use Rattle.breakdown.proofs.Bytes.{total-none, total-some}
+use Rattle.breakdown.proofs.TotalText.{total-none, total-some}
 use Rattle.breakdown.proofs.total.total_text.Statement.{statement}
 use Rattle.breakdown.proofs.total.total_text.Tie as tie
 

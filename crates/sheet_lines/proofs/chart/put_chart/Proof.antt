@@ -4,7 +4,6 @@ use mathlib.Core.Path.{sym}
 use lib.Seq.{length-take-le}
 use Rattle.sheet_lines.proofs.Charted.{by-pass, by-total, six, total-within, lines-room, printed}
 use borrow.Author.Needs.{needs}
-use borrow.Author.Needs.{needs}
 use Rattle.sheet_lines.proofs.chart.put_chart.Statement.{statement}
 use Rattle.sheet_lines.proofs.chart.put_chart.Tie as tie
 

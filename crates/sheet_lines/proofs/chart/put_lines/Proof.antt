@@ -3,7 +3,6 @@
 use Rattle.number.proofs.Place.{room-first, room-next, wrote}
 use Rattle.sheet_lines.proofs.Numbers.{started}
 use borrow.Author.Needs.{needs}
-use borrow.Author.Needs.{needs}
 use Rattle.sheet_lines.proofs.chart.put_lines.Statement.{statement}
 use Rattle.sheet_lines.proofs.chart.put_lines.Tie as tie
 

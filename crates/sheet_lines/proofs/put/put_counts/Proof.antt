@@ -5,7 +5,6 @@ use Rattle.number.proofs.Place.{room-first, room-next, wrote}
 use Rattle.sheet_lines.specs.Steps.{led}
 use Rattle.sheet_lines.proofs.Numbers.{others, counts-parts}
 use borrow.Author.Needs.{needs}
-use borrow.Author.Needs.{needs}
 use Rattle.sheet_lines.proofs.put.put_counts.Statement.{statement}
 use Rattle.sheet_lines.proofs.put.put_counts.Tie as tie
 

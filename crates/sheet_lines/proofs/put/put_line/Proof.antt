@@ -2,10 +2,8 @@
 -- Assumes nothing.
 use Rattle.number.proofs.Place.{room-first, room-next, wrote}
 use borrow.Author.Needs.{needs}
-use borrow.Author.Needs.{needs}
 use Rattle.sheet_lines.proofs.put.put_line.Statement.{statement}
 use Rattle.sheet_lines.proofs.put.put_line.Tie as tie
-use Rattle.sheet_lines.proofs.put.put_bytes.Reads as put-bytes-reads
 
 put-bytes-requires : tie.Need-put-bytes-requires
 put-bytes-requires c κs = room-first _ _ (c .before .before .before .pre)

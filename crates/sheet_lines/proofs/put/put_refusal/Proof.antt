@@ -7,11 +7,8 @@ use Rattle.rules.specs.Bytes.{bytes}
 use Rattle.number.proofs.Place.{room-first, room-next, wrote}
 use Rattle.sheet_lines.proofs.Numbers.{refusal-room, started}
 use borrow.Author.Needs.{needs}
-use borrow.Author.Needs.{needs}
 use Rattle.sheet_lines.proofs.put.put_refusal.Statement.{statement}
 use Rattle.sheet_lines.proofs.put.put_refusal.Tie as tie
-use Rattle.number.proofs.put_u64.Reads as put-u64-reads
-use Rattle.sheet_lines.proofs.put.put_bytes.Reads as put-bytes-reads
 
 slice-aggregate-put-bytes : tie.Need-slice-aggregate-put-bytes
 slice-aggregate-put-bytes c = search needs

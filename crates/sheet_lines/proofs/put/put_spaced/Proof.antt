@@ -4,11 +4,8 @@ use Rattle.number.specs.Digits.{digits}
 use Rattle.rules.specs.Bytes.{bytes}
 use Rattle.number.proofs.Place.{room-first, room-next, wrote}
 use borrow.Author.Needs.{needs}
-use borrow.Author.Needs.{needs}
 use Rattle.sheet_lines.proofs.put.put_spaced.Statement.{statement}
 use Rattle.sheet_lines.proofs.put.put_spaced.Tie as tie
-use Rattle.number.proofs.put_u64.Reads as put-u64-reads
-use Rattle.sheet_lines.proofs.put.put_bytes.Reads as put-bytes-reads
 
 slice-aggregate-put-bytes : tie.Need-slice-aggregate-put-bytes
 slice-aggregate-put-bytes c = search needs

@@ -7,7 +7,6 @@ use Rattle.sheet_lines.proofs.Cutting.{Cutting, cut-starts, cut-long, c
 use borrow.Author.Needs.{needs}
 use Rattle.sheet_lines.proofs.put.put_texts.Statement.{statement}
 use Rattle.sheet_lines.proofs.put.put_texts.Tie as tie
-use Rattle.sheet_lines.proofs.put.put_line.Reads as put-line-reads
 
 abbrev Inv-loop : tie.InvT-loop
 Inv-loop out₀ at texts lengths place₀ start₀ i₀ out place start i = Cutting texts lengths out₀ at out place start i

@@ -8,7 +8,7 @@ use mathlib.Core.List.{[]}
 use Rattle.rules.specs.declared.Kind.the-variants.{Sn as sn, Standard as standard}
 use Rattle.rules.specs.declared.BreakdownMode.the-variants as Mode
 use Rattle.rules.specs.declared.StreamBreakdownLevel.the-variants as Level
-use Rattle.breakdown.proofs.Added.{added-out}
+use Rattle.text_buffer.proofs.Added.{added-out}
 use Rattle.streams.proofs.Pass.{source, made, going, going-room, going-on, going-between, going-length, ended, then, six}
 use Rattle.streams.proofs.outputs.put_six.Statement.{statement}
 use Rattle.streams.proofs.outputs.put_six.Tie as tie

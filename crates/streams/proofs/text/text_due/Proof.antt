@@ -3,7 +3,7 @@
 use Prim.Native.Nat.{ℕ}
 use mathlib.Core.Path.{sym, ap, _∙_}
 use lib.ListN.{length}
-use Rattle.breakdown.specs.Standard.{totalText}
+use Rattle.standard_text.specs.Standard.{totalText}
 use Rattle.streams.proofs.Texts.{source, is-text, total}
 use borrow.Author.Needs.{needs}
 use Rattle.streams.proofs.text.text_due.Statement.{statement}

@@ -1,0 +1,77 @@
+-- `sn_text::sn::add_token` meets its contract.
+-- Assumes nothing.
+use mathlib.Core.List.{[], _∷_, _++_}
+use native.Mathlib.Omega.{arith}
+use Rattle.number.specs.Digits.{digits}
+use Rattle.number.proofs.Digits.{at-most}
+use Rattle.text_buffer.specs.Buffer.{Grown}
+use Rattle.text_buffer.specs.Words.{side, Word}
+use Rattle.text_buffer.proofs.Bytes.{side-short}
+use Rattle.text_buffer.proofs.Growing.{grown, dropped, worded}
+use Rattle.sn_text.proofs.SnParts.{token-text, token-none}
+use borrow.Author.Needs.{needs}
+use Rattle.sn_text.proofs.sn.add_token.Statement.{statement}
+use Rattle.sn_text.proofs.sn.add_token.Tie as tie
+
+before-word : (c : tie.After-word-at) → Word (side 40 (c .before .before .before .args .class)) (c .word-at .result)
+before-word c = rw (c .word-at .ensures) (c .before .before .before .pre .1 .before (c .before .before .before .args .class))
+
+behind-word : (c : tie.After-word-at2) → Word (side 41 (c .before .before .before .before .before .before .before .before .before .before .before .before .args .class) ++ (32 ∷ [])) (c .word-at2 .result)
+behind-word c = rw (c .word-at2 .ensures) (c .before .before .before .before .before .before .before .before .before .before .before .before .pre .1 .behind (c .before .before .before .before .before .before .before .before .before .before .before .before .args .class))
+
+-- the token, if it is kept
+whole : (c : tie.After-add-word2) → let a = c .before .before .before .before .before .before .before .before .before .before .before .before .before .args in
+    Grown (a .buf .now) (c .add-word2 .last .0) (a .k) (side 40 (a .class) ++ (digits (a .n) ++ (side 41 (a .class) ++ (32 ∷ [])))) (c .add-word2 .result)
+whole c =
+    let d = grown _ _ (c .before .before .before .before .before .add-number .ensures) (worded (behind-word (c .before)) (c .add-word2 .ensures)) in
+    grown _ _ (worded (before-word (c .before .before .before .before .before .before .before .before .before .before)) (c .before .before .before .before .before .before .before .before .before .add-word .ensures)) d
+
+word-at-requires : tie.Need-word-at-requires
+word-at-requires c κs = search needs
+
+add-word-requires : tie.Need-add-word-requires
+add-word-requires c κs = (omega (arith, c .before .before .before .pre .0), before-word c .short)
+
+add-number-requires : tie.Need-add-number-requires
+add-number-requires c κs =
+    let s = c .before .before .before .before .before .before .before in
+    let a = worded (before-word (c .before .before .before .before)) (c .before .before .before .add-word .ensures) in
+    (omega (arith, s .pre .0, a .next, a .long, side-short 40 (s .args .class)), s .pre .1)
+
+word-at-requires-2 : tie.Need-word-at-requires-2
+word-at-requires-2 c κs = search needs
+
+add-word-requires-2 : tie.Need-add-word-requires-2
+add-word-requires-2 c κs =
+    let s = c .before .before .before .before .before .before .before .before .before .before .before .before in
+    let a = worded (before-word (c .before .before .before .before .before .before .before .before .before)) (c .before .before .before .before .before .before .before .before .add-word .ensures) in
+    let b = c .before .before .before .before .add-number .ensures in (
+      omega (arith, s .pre .0, a .next, a .long, side-short 40 (s .args .class), b .next, b .long, at-most 20 (s .args .n) (omega arith) (omega arith)),
+      behind-word c .short,
+    )
+
+same-length : tie.Need-same-length
+same-length c = search needs
+
+returns : tie.Need-returns
+returns c = let s = c .before .before .before .before .before .before .before .before .before .before .before .before .before .before .before .before in rw (token-none (s .args .class) (s .args .n) (c .if1 .taken)) (dropped _ (omega (arith, s .pre .0)) (whole (c .before .before .before)))
+
+same-length-2 : tie.Need-same-length-2
+same-length-2 c = search needs
+
+returns-2 : tie.Need-returns-2
+returns-2 c = let a = c .before .before .before .before .before .before .before .before .before .before .before .before .before .before .before .before .args in rw (token-text (a .class) (a .n) (c .if1 .left)) (whole (c .before .before .before))
+
+pub add-token-spec : {M : Type 1} → statement M
+add-token-spec =
+    tie.close
+    (tie.spec
+    word-at-requires
+    add-word-requires
+    add-number-requires
+    word-at-requires-2
+    add-word-requires-2
+    same-length
+    returns
+    same-length-2
+    returns-2)

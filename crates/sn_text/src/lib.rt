@@ -1,0 +1,2 @@
+// SN texts, part by part, written and measured from tokens.
+pub mod sn;

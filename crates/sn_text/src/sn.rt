@@ -1,0 +1,352 @@
+// SN texts, part by part. The join limit says the mode: 0 detailed, 1 partial, 4 simplified.
+use text_buffer::buffer::Left;
+use text_buffer::buffer::add_number;
+use text_buffer::buffer::add_word;
+use text_buffer::buffer::flush;
+use text_buffer::buffer::number_length;
+use text_buffer::gap::sign_word;
+use text_buffer::run::Done;
+use text_buffer::run::Run;
+use text_buffer::run::Tally;
+use text_buffer::run::add_ended;
+use text_buffer::run::open_run;
+use text_buffer::run::run_length;
+use text_buffer::words::word_at;
+ghost use Prim.Native.Nat.{_*_, _+_, _^_, _≤_, _<_};
+ghost use mathlib.Core.Path.{_≡_};
+ghost use mathlib.Core.Bool.{cond, false};
+ghost use mathlib.Core.Logic.{_≢_};
+ghost use mathlib.Core.List.{[], _∷_};
+ghost use lib.ListN.{length, getD};
+ghost use Rattle.rules.specs.Chart.{token};
+ghost use Rattle.rules.specs.Reduced.{dropOnes};
+ghost use Rattle.text_buffer.specs.Buffer.{Grown, Ready};
+ghost use Rattle.sn_text.specs.SnParts.{OpenRun, snOn, snPart, RunAt, TokenAt, WithBreak, ended, joinClass, longBreak, SideLength};
+ghost use Rattle.text_buffer.specs.Parts.{PartMeasured, PartRoom, PartWritten, TokensBehind};
+ghost use Rattle.text_buffer.specs.Put.{Measured};
+ghost use Rattle.text_buffer.specs.Runs.{runToken};
+ghost use Rattle.sn_text.specs.Sn.{breakTokens, shown};
+ghost use Rattle.text_buffer.specs.Words.{Words};
+
+// The next run, the break before it (0: none), and the place behind it.
+struct NextRun {
+    gap: u32,
+    class: u8,
+    length: u32,
+    next: usize,
+}
+
+// n, or 0 where there is no break: the smaller of two numbers, since a test that picks n itself would be made a branch.
+fn gap_of(broken: bool, n: u32) -> u32
+    ensures { λ r. ⌜ r ≡ cond broken n 0 ⌝ }
+{
+    let most = if broken { 4294967295 } else { 0 };
+    if n < most { n } else { most }
+}
+
+// The run at `i`, or behind the break there.
+fn next_run(cs: &[u8], ns: &[u32], i: usize) -> NextRun
+    requires { ⌜ TokenAt (now cs) (now ns) i ⌝ }
+    ensures { λ r. ⌜ RunAt (now (cs .entry)) (now (ns .entry)) i (r .gap) (r .class) (r .length) (r .next) ⌝ }
+{
+    let broken = cs[i] == 0;
+    let gap = gap_of(broken, ns[i]);
+    let j = if broken { i + 1 } else { i };
+    NextRun {
+        gap,
+        class: cs[j],
+        length: ns[j],
+        next: j + 1,
+    }
+}
+
+// Where the next run stands, and the break before it (0: none).
+struct RunPlace {
+    gap: u32,
+    place: usize,
+}
+
+// The same by a branch, which goes the same way again and again in most charts; the run itself is read where it is needed.
+fn run_place(cs: &[u8], ns: &[u32], i: usize) -> RunPlace
+    requires { ⌜ TokenAt (now cs) (now ns) i ⌝ }
+    ensures { λ r. ⌜ RunAt (now (cs .entry)) (now (ns .entry)) i (r .gap) (getD (now (cs .entry)) (r .place) 0) (getD (now (ns .entry)) (r .place) 0) (r .place + 1) ⌝ }
+{
+    if cs[i] == 0 {
+        return RunPlace {
+            gap: ns[i],
+            place: i + 1,
+        };
+    }
+    RunPlace { gap: 0, place: i }
+}
+
+// The class of a run that joins one of `class` over a break of `gap`: 0, which no run has, if none does.
+fn join_class(limit: u32, class: u8, gap: u32) -> u8
+    ensures { λ r. ⌜ r ≡ joinClass limit class gap ⌝ }
+{
+    let near = (0 < gap) & (gap <= limit);
+    if near { class } else { 0 }
+}
+
+// A run, with a break behind it over which no run joins: one of 2 up to the limit is added.
+fn with_break(limit: u32, run: Run, gap: u32) -> Run
+    requires { ⌜ (run .class ≢ 0) × (run .length + gap < 2 ^ 64) ⌝ }
+    ensures { λ r. ⌜ WithBreak limit (runToken run) gap (runToken r) ⌝ }
+{
+    let near = (1 < gap) & (gap <= limit);
+    if near {
+        Run {
+            class: run.class,
+            length: run.length + gap as u64,
+            starred: true,
+        }
+    } else {
+        run
+    }
+}
+
+// A run with a break behind it over which no run joins, and the sign and a space of a break that is longer than the limit.
+fn add_group(buf: &mut [u8], k: usize, limit: u32, run: Run, gap: u32, words: &[u32; 192]) -> usize
+    requires { ⌜ (k + 29 ≤ length (now buf)) × Words (now words) × (1 ≤ limit) × (run .class ≢ 0) × (run .length + gap < 2 ^ 64) ⌝ }
+    ensures { λ r. ⌜ Grown (now (buf .entry)) (now (buf .exit)) k (ended limit (shown limit (runToken run ∷ breakTokens gap))) r ⌝ }
+{
+    let a = add_ended(buf, k, with_break(limit, run, gap), words);
+    let b = add_word(buf, a, sign_word(words, gap));
+    if limit < gap { b } else { a }
+}
+
+// A part of a text in which runs join.
+fn joined_part(
+    cs: &[u8],
+    ns: &[u32],
+    limit: u32,
+    run: Run,
+    words: &[u32; 192],
+    buf: &mut [u8],
+    out: &mut [u8],
+    from: Left,
+) -> Done
+    requires { ⌜ (1 ≤ limit) × TokensBehind (run .class) (now cs) (now ns) × (run .length ≤ 2 ^ 62) × Ready (now buf) (from .left) (now words) × PartRoom (snPart limit (runToken run) (now cs) (now ns)) (now buf) (now out) from ⌝ }
+    ensures { λ r. ⌜ PartWritten (snPart limit (runToken run) (now (cs .entry)) (now (ns .entry))) (snOn limit (runToken (r .run))) (now (buf .entry)) (now (out .entry)) from (now (buf .exit)) (now (out .exit)) (r .to) × OpenRun (runToken run) (now (cs .entry)) (runToken (r .run)) ⌝ }
+{
+    let mut last = run;
+    let mut to = from;
+    let mut i: usize = 0;
+    while i < cs.len() {
+        let t = run_place(cs, ns, i);
+        let j = t.place;
+        let next = j + 1;
+        // right behind the last run nothing joins, and there is no break to show
+        if j == i {
+            let full = add_ended(buf, to.left, last, words);
+            to = flush(buf, out, to.place, full);
+            last = open_run(cs[j], ns[j]);
+        } else if cs[j] == join_class(limit, last.class, t.gap) {
+            last.length += t.gap as u64 + ns[j] as u64;
+            last.starred = true;
+        } else {
+            let full = add_group(buf, to.left, limit, last, t.gap, words);
+            to = flush(buf, out, to.place, full);
+            last = open_run(cs[j], ns[j]);
+        }
+        i = next;
+    }
+    Done { run: last, to }
+}
+
+// The same, for long charts of short tokens, which the processor cannot foresee: no branch but for joins hangs on them.
+fn dense_joined_part(
+    cs: &[u8],
+    ns: &[u32],
+    limit: u32,
+    run: Run,
+    words: &[u32; 192],
+    buf: &mut [u8],
+    out: &mut [u8],
+    from: Left,
+) -> Done
+    requires { ⌜ (1 ≤ limit) × TokensBehind (run .class) (now cs) (now ns) × (run .length ≤ 2 ^ 62) × Ready (now buf) (from .left) (now words) × PartRoom (snPart limit (runToken run) (now cs) (now ns)) (now buf) (now out) from ⌝ }
+    ensures { λ r. ⌜ PartWritten (snPart limit (runToken run) (now (cs .entry)) (now (ns .entry))) (snOn limit (runToken (r .run))) (now (buf .entry)) (now (out .entry)) from (now (buf .exit)) (now (out .exit)) (r .to) × OpenRun (runToken run) (now (cs .entry)) (runToken (r .run)) ⌝ }
+{
+    let mut last = run;
+    let mut to = from;
+    let mut i: usize = 0;
+    while i < cs.len() {
+        let t = next_run(cs, ns, i);
+        if t.class == join_class(limit, last.class, t.gap) {
+            last.length += t.gap as u64 + t.length as u64;
+            last.starred = true;
+        } else {
+            let full = add_group(buf, to.left, limit, last, t.gap, words);
+            to = flush(buf, out, to.place, full);
+            last = open_run(t.class, t.length);
+        }
+        i = t.next;
+    }
+    Done { run: last, to }
+}
+
+// A run or a break, by its length, and a space; nothing for a break of 1.
+fn add_token(buf: &mut [u8], k: usize, class: u8, n: u32, words: &[u32; 192]) -> usize
+    requires { ⌜ (k + 26 ≤ length (now buf)) × Words (now words) ⌝ }
+    ensures { λ r. ⌜ Grown (now (buf .entry)) (now (buf .exit)) k (ended 0 (dropOnes (token class n false ∷ []))) r ⌝ }
+{
+    let a = add_word(buf, k, word_at(words, 105, 4, class as u32));
+    let b = add_number(buf, a, n as u64, words);
+    let c = add_word(buf, b, word_at(words, 110, 4, class as u32));
+    if (class == 0) & (n == 1) { k } else { c }
+}
+
+// A part of a text in which no runs join.
+fn detailed_part(
+    cs: &[u8],
+    ns: &[u32],
+    run: Run,
+    words: &[u32; 192],
+    buf: &mut [u8],
+    out: &mut [u8],
+    from: Left,
+) -> Done
+    requires { ⌜ TokensBehind (run .class) (now cs) (now ns) × Ready (now buf) (from .left) (now words) × PartRoom (snPart 0 (runToken run) (now cs) (now ns)) (now buf) (now out) from ⌝ }
+    ensures { λ r. ⌜ PartWritten (snPart 0 (runToken run) (now (cs .entry)) (now (ns .entry))) (snOn 0 (runToken (r .run))) (now (buf .entry)) (now (out .entry)) from (now (buf .exit)) (now (out .exit)) (r .to) × OpenRun (runToken run) (now (cs .entry)) (runToken (r .run)) ⌝ }
+{
+    if cs.len() == 0 {
+        return Done { run, to: from };
+    }
+    let last = cs.len() - 1;
+    let first = add_ended(buf, from.left, run, words);
+    let mut to = flush(buf, out, from.place, first);
+    let mut i: usize = 0;
+    while i < last {
+        let full = add_token(buf, to.left, cs[i], ns[i], words);
+        to = flush(buf, out, to.place, full);
+        i += 1;
+    }
+    Done {
+        run: open_run(cs[last], ns[last]),
+        to,
+    }
+}
+
+// A part of the SN text: an open run and some tokens behind it, of which the last stays open.
+pub fn sn_part(
+    cs: &[u8],
+    ns: &[u32],
+    limit: u32,
+    dense: bool,
+    run: Run,
+    words: &[u32; 192],
+    buf: &mut [u8],
+    out: &mut [u8],
+    from: Left,
+) -> Done
+    requires { ⌜ TokensBehind (run .class) (now cs) (now ns) × (run .length ≤ 2 ^ 62) × Ready (now buf) (from .left) (now words) × PartRoom (snPart limit (runToken run) (now cs) (now ns)) (now buf) (now out) from ⌝ }
+    ensures { λ r. ⌜ PartWritten (snPart limit (runToken run) (now (cs .entry)) (now (ns .entry))) (snOn limit (runToken (r .run))) (now (buf .entry)) (now (out .entry)) from (now (buf .exit)) (now (out .exit)) (r .to) × OpenRun (runToken run) (now (cs .entry)) (runToken (r .run)) ⌝ }
+{
+    if limit == 0 {
+        return detailed_part(cs, ns, run, words, buf, out, from);
+    }
+    if dense {
+        return dense_joined_part(cs, ns, limit, run, words, buf, out, from);
+    }
+    joined_part(cs, ns, limit, run, words, buf, out, from)
+}
+
+// How many bytes a break has that is shown behind a run, with a space: by its length in detailed, else as a sign.
+fn long_length(limit: u32, gap: u32) -> usize
+    ensures { λ r. ⌜ Measured (ended limit (longBreak limit gap)) 23 r ⌝ }
+{
+    let wide = if limit == 0 {
+        3 + number_length(gap as u64)
+    } else {
+        2
+    };
+    if (1 < gap) & (limit < gap) { wide } else { 0 }
+}
+
+// How many bytes a run and the break behind it have, each with a space.
+fn ended_length(limit: u32, run: Run, gap: u32) -> usize
+    requires { ⌜ (run .class ≢ 0) × (run .length + gap < 2 ^ 64) ⌝ }
+    ensures { λ r. ⌜ Measured (ended limit (shown limit (runToken run ∷ breakTokens gap))) 47 r ⌝ }
+{
+    run_length(with_break(limit, run, gap)) + 1 + long_length(limit, gap)
+}
+
+// How many bytes stand on a side of a token's length: a mark or a parenthesis, but for class 1.
+fn side_length(class: u8) -> usize
+    ensures { λ r. ⌜ SideLength class r ⌝ }
+{
+    if class == 1 { 0 } else { 1 }
+}
+
+// How many bytes `add_token` adds.
+fn token_length(class: u8, n: u32) -> usize
+    ensures { λ r. ⌜ Measured (ended 0 (dropOnes (token class n false ∷ []))) 23 r ⌝ }
+{
+    let side = side_length(class);
+    let whole = number_length(n as u64) + side + side + 1;
+    if (class == 0) & (n == 1) { 0 } else { whole }
+}
+
+// How long a part of a text is in which no runs join.
+fn detailed_part_length(cs: &[u8], ns: &[u32], run: Run) -> Tally
+    requires { ⌜ TokensBehind (run .class) (now cs) (now ns) ⌝ }
+    ensures { λ r. ⌜ PartMeasured (snPart 0 (runToken run) (now (cs .entry)) (now (ns .entry))) (snOn 0 (runToken (r .run))) (47 * length (now (cs .entry))) (r .length) × OpenRun (runToken run) (now (cs .entry)) (runToken (r .run)) ⌝ }
+{
+    if cs.len() == 0 {
+        return Tally { run, length: 0 };
+    }
+    let last = cs.len() - 1;
+    let mut total = run_length(run) + 1;
+    let mut i: usize = 0;
+    while i < last {
+        total += token_length(cs[i], ns[i]);
+        i += 1;
+    }
+    Tally {
+        run: open_run(cs[last], ns[last]),
+        length: total,
+    }
+}
+
+// How long a part of a text is in which runs join: no branch hangs on the tokens but for numbers of 100 and more.
+fn joined_part_length(cs: &[u8], ns: &[u32], limit: u32, run: Run) -> Tally
+    requires { ⌜ TokensBehind (run .class) (now cs) (now ns) × (run .length ≤ 2 ^ 62) ⌝ }
+    ensures { λ r. ⌜ PartMeasured (snPart limit (runToken run) (now (cs .entry)) (now (ns .entry))) (snOn limit (runToken (r .run))) (47 * length (now (cs .entry))) (r .length) × OpenRun (runToken run) (now (cs .entry)) (runToken (r .run)) ⌝ }
+{
+    let mut last = run;
+    let mut total: usize = 0;
+    let mut i: usize = 0;
+    while i < cs.len() {
+        let t = next_run(cs, ns, i);
+        let mut more = ended_length(limit, last, t.gap);
+        let mut n = t.length as u64;
+        let joins = t.class == join_class(limit, last.class, t.gap);
+        if joins {
+            more = 0;
+            n = last.length + (t.gap as u64 + n);
+        }
+        total += more;
+        last = Run {
+            class: t.class,
+            length: n,
+            starred: joins,
+        };
+        i = t.next;
+    }
+    Tally {
+        run: last,
+        length: total,
+    }
+}
+
+// How long a part of the SN text is.
+pub fn sn_part_length(cs: &[u8], ns: &[u32], limit: u32, run: Run) -> Tally
+    requires { ⌜ TokensBehind (run .class) (now cs) (now ns) × (run .length ≤ 2 ^ 62) ⌝ }
+    ensures { λ r. ⌜ PartMeasured (snPart limit (runToken run) (now (cs .entry)) (now (ns .entry))) (snOn limit (runToken (r .run))) (47 * length (now (cs .entry))) (r .length) × OpenRun (runToken run) (now (cs .entry)) (runToken (r .run)) ⌝ }
+{
+    if limit == 0 {
+        return detailed_part_length(cs, ns, run);
+    }
+    joined_part_length(cs, ns, limit, run)
+}

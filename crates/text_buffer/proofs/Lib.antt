@@ -1,0 +1,6 @@
+pub mod Bytes
+pub mod Growing
+pub mod Table
+pub mod Added
+pub mod Reached
+pub mod Reading

@@ -1,0 +1,69 @@
+-- Tokens, one by one: in two slices, and of measures.
+-- Assumes nothing.
+use Prim.Native.Nat.{ℕ, zero, suc, _+_, _≤_, _<_}
+use mathlib.Core.Path.{_≡_, refl, _∙_}
+use mathlib.Core.Bool.{false}
+use mathlib.Core.Logic.{_≢_}
+use mathlib.Core.List.{List, [], _∷_}
+use native.Mathlib.Nat.{not-suc-le-zero, le-of-suc-le-suc}
+use native.Mathlib.Omega.{arith}
+use lib.ListN.{length, drop, getD}
+use Rattle.rules.specs.Chart.{classOf, classes, Token, token, runs}
+use Rattle.rules.specs.Calls.{stepAt}
+use Rattle.rules.specs.declared.ViewToken.{ViewToken}
+use Rattle.rules.proofs.Steps.{map-drop}
+use Rattle.rules.proofs.View.{leading, first-run}
+use Rattle.measures.proofs.Stepping.{run-fits}
+use Rattle.measures.specs.Scan.{paired}
+use Rattle.text_buffer.specs.Behind.{Behind, Alternates, firstClass}
+
+-- ---- tokens in two slices
+
+pub none-left : (cs ns : List ℕ) (i : ℕ) → length cs ≤ i → drop i (paired cs ns) ≡ []
+none-left [] ns zero h = refl
+none-left [] ns (suc i) h = refl
+none-left (c ∷ cs) ns zero h = absurd (not-suc-le-zero h)
+none-left (c ∷ cs) [] (suc i) h = refl
+none-left (c ∷ cs) (n ∷ ns) (suc i) h = none-left cs ns i (le-of-suc-le-suc h)
+
+pub slices-next : (cs ns : List ℕ) (i : ℕ) → length cs ≡ length ns → i < length cs
+    → drop i (paired cs ns) ≡ token (getD cs i 0) (getD ns i 0) false ∷ drop (suc i) (paired cs ns)
+slices-next [] ns i e h = absurd (not-suc-le-zero h)
+slices-next (c ∷ cs) [] i e h = absurd (omega arith)
+slices-next (c ∷ cs) (n ∷ ns) zero e h = refl
+slices-next (c ∷ cs) (n ∷ ns) (suc i) e h = slices-next cs ns i (omega arith) (le-of-suc-le-suc h)
+
+-- ---- the first token of some measures
+
+one-add : (k : ℕ) → 1 + k ≡ suc k
+one-add k = omega arith
+
+module _ (d : ℕ) (m : List ℕ) where
+  abbrev more : ℕ
+  more = leading (classOf d) (classes m)
+
+  first-token : runs (classes (d ∷ m)) ≡ token (classOf d) (suc more) false ∷ runs (classes (drop more m))
+  first-token = first-run (classOf d) 1 (classes m) ∙ rw (map-drop, one-add)
+
+-- the token that a step of the view says, and those after it
+pub record Stepped (m : List ℕ) (t : ViewToken) : Type 0 where
+  pub rest : runs (classes m) ≡ token (t .class) (t .length) false ∷ runs (classes (drop (t .length) m))
+  pub some : 1 ≤ t .length
+  pub fits : t .length ≤ length m
+
+pub stepped : (m : List ℕ) → 0 < length m → Stepped m (stepAt 0 m)
+unfolding stepAt
+stepped [] h = absurd (omega arith)
+stepped (d ∷ m) h =
+    rw (first-token d m)
+    (record { rest = first-token d m; some = omega arith; fits = omega (arith, run-fits m 0 (classOf d) (omega arith)) })
+
+-- ---- what stands behind a token
+
+pub opens-break : (ts : List Token) → Behind 0 ts → Alternates ts
+opens-break [] h = tt
+opens-break (t ∷ ts) h = h
+
+pub run-behind : (ts : List Token) → Behind 0 ts → firstClass ts ≢ 0
+run-behind [] h = h
+run-behind (token d n s ∷ ts) h = λ e. h .0 e .0 refl

@@ -1,0 +1,30 @@
+-- `text_buffer::run::add_star` meets its contract.
+-- Assumes nothing.
+use mathlib.Core.List.{[], _∷_}
+use native.Mathlib.Omega.{arith}
+use Rattle.text_buffer.proofs.Growing.{stored, dropped}
+use borrow.Author.Needs.{needs}
+use Rattle.text_buffer.proofs.run.add_star.Statement.{statement}
+use Rattle.text_buffer.proofs.run.add_star.Tie as tie
+
+slice-write-buf : tie.Need-slice-write-buf
+slice-write-buf c = search needs
+
+add-result : tie.Need-add-result
+add-result c = search needs
+
+same-length : tie.Need-same-length
+same-length c = search needs
+
+returns : tie.Need-returns
+returns c = rw (c .if1 .taken) (stored 42 (c .before .pre))
+
+same-length-2 : tie.Need-same-length-2
+same-length-2 c = search needs
+
+returns-2 : tie.Need-returns-2
+returns-2 c = rw (c .if1 .left) (dropped (42 ∷ []) (omega (arith, c .before .pre)) (stored 42 (c .before .pre)))
+
+pub add-star-spec : {M : Type 1} → statement M
+add-star-spec =
+    tie.close (tie.spec slice-write-buf add-result same-length returns same-length-2 returns-2)

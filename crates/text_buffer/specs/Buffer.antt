@@ -1,0 +1,29 @@
+-- What a function leaves that adds a text to a buffer, or to a slice through a buffer.
+-- Assumes nothing.
+use Prim.Native.Nat.{ℕ, _+_, _≤_}
+use mathlib.Core.Path.{_≡_}
+use mathlib.Core.List.{List, _++_}
+use lib.ListN.{length, take}
+use Rattle.number.specs.Place.{Wrote}
+use Rattle.text_buffer.specs.Words.{Words}
+use Rattle.text_buffer.specs.declared.buffer.Left.{Left}
+
+-- the bytes xs behind the first k of the buffer, which stay; r is the next place, and of what stands there nothing is said
+pub record Grown (old new : List ℕ) (k : ℕ) (xs : List ℕ) (r : ℕ) : Type 0 where
+  pub next : r ≡ k + length xs
+  pub front : take r new ≡ take k old ++ xs
+  pub long : length new ≡ length old
+
+-- a buffer with room for one more group or piece, and the table of words
+pub record Ready (buf : List ℕ) (left : ℕ) (table : List ℕ) : Type 0 where
+  pub long : 512 ≤ length buf
+  pub few : left ≤ 448
+  pub words : Words table
+
+-- the text xs behind what stood in the buffer `old`: the first of all that is written in the slice, and the rest stands in the buffer
+pub record Added (old : List ℕ) (out : List ℕ) (from : Left) (xs : List ℕ) (buf : List ℕ) (new : List ℕ) (to : Left) : Type 0 where
+  pub front : List ℕ
+  pub wrote : Wrote out new (from .place) front (to .place)
+  pub all : front ++ take (to .left) buf ≡ take (from .left) old ++ xs
+  pub long : length buf ≡ length old
+  pub few : to .left ≤ 448
