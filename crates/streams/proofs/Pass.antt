@@ -4,19 +4,21 @@ use Prim.Native.Nat.{ℕ, zero, suc, _+_, _*_, _-_, _≤_, _<_}
 use mathlib.Core.Path.{_≡_, refl, sym, ap, _∙_}
 use mathlib.Core.Bool.{Bool, true, false, _&&_}
 use mathlib.Core.Logic.{_≢_, ⊎-elim}
-use mathlib.Core.List.{List, [], _∷_, _++_, append-assoc}
+use mathlib.Core.List.{List, [], _∷_, _++_, append-assoc, append-nil}
+use native.Mathlib.Nat.{zero-add}
 use native.Mathlib.Omega.{arith}
 use lib.Dec.{leb}
-use lib.ListN.{length, take, getD, length-append}
-use lib.Seq.{length-take-le}
+use lib.ListN.{length, take, drop, getD, set, replicate, length-append, length-set}
+use lib.Seq.{length-take-le, take-suc-set, take-all}
+use native.Mathlib.Numerals.{add-one}
 use borrow.Author.Tests.{le-leb, lt-leb, leb-true}
 use Rattle.number.specs.Place.{Room, Wrote}
-use Rattle.number.specs.Questions.{question, filled, firstNo}
+use Rattle.number.specs.Questions.{question, firstNo}
 use Rattle.number.proofs.Place.{room-first, at-start}
 use Rattle.rules.specs.Chart.{classes, activePart, runs, tokens, counts}
 use Rattle.rules.specs.declared.Kind.{Kind}
 use Rattle.rules.specs.declared.Kind.the-variants.{Sn as sn, Standard as standard}
-use Rattle.rules.specs.Texts.{text, passKinds, endToEnd}
+use Rattle.rules.specs.Texts.{text, passKinds, endToEnd, lengthsOf}
 use Rattle.rules.specs.declared.BreakdownMode.the-variants as Mode
 use Rattle.rules.specs.declared.StreamBreakdownLevel.the-variants as Level
 use Rattle.rules.specs.declared.StreamCounts.{StreamCounts}
@@ -36,7 +38,7 @@ use Rattle.text_buffer.proofs.Added.{goesOn, added-none, added-room, added, add
 use Rattle.breakdown.proofs.Measures.{paired-length}
 use Rattle.breakdown.proofs.Modes.{part-tokens, tokens-of, form-text}
 use Rattle.streams.specs.Promises.{passNo, Outputs}
-use Rattle.streams.specs.Pass.{FirstNo, Shorter, Tokened, SixTexts, refusedPass}
+use Rattle.streams.specs.Pass.{FirstNo, Shorter, Tokened, SixTexts, passKind, refusedPass}
 
 -- ---- measured
 
@@ -72,54 +74,97 @@ module _ {m cs ns old : List ℕ} (t : Tokened m cs ns old) where
   pub made : (k : Kind) → isTotal k ≡ false → {f : Form} → f ≡ formOf k → textOf f (paired cs ns) ≡ text k m
   made k h e = ap (λ (f : Form). textOf f (paired cs ns)) e ∙ form-text (paired cs ns) m (t .tokens) k h
 
--- room for the texts of some kinds behind what stands in the buffer
-pub record Going (m : List ℕ) (ks : List Kind) (table buf out : List ℕ) (to : Left) : Type 0 where
+pub next-kind : (i : ℕ) → i < 6 → drop i passKinds ≡ passKind i ∷ drop (suc i) passKinds
+next-kind zero h = refl
+next-kind (suc zero) h = refl
+next-kind (suc (suc zero)) h = refl
+next-kind (suc (suc (suc zero))) h = refl
+next-kind (suc (suc (suc (suc zero)))) h = refl
+next-kind (suc (suc (suc (suc (suc zero))))) h = refl
+next-kind (suc (suc (suc (suc (suc (suc i)))))) h = absurd (omega arith)
+
+not-total : (i : ℕ) → i < 6 → isTotal (passKind i) ≡ false
+not-total zero h = refl
+not-total (suc zero) h = refl
+not-total (suc (suc zero)) h = refl
+not-total (suc (suc (suc zero))) h = refl
+not-total (suc (suc (suc (suc zero)))) h = refl
+not-total (suc (suc (suc (suc (suc zero))))) h = refl
+not-total (suc (suc (suc (suc (suc (suc i)))))) h = absurd (omega arith)
+
+-- the place that is left
+pub last-kind : (i : ℕ) → i < 6 → i ≢ 0 → i ≢ 1 → i ≢ 2 → i ≢ 3 → i ≢ 4 → i ≡ 5
+last-kind i h n₀ n₁ n₂ n₃ n₄ = omega arith
+
+-- the first i texts are added, and their lengths stand in a list of six
+pub record Going (m : List ℕ) (table first old : List ℕ) (i : ℕ) (buf out lengths : List ℕ) (to : Left) : Type 0 where
+  pub done : List ℕ
+  pub whole : done ++ endToEnd (drop i passKinds) m ≡ endToEnd passKinds m
+  pub wrote : Added first old (goesOn 0 0) done buf out to
   pub ready : Ready buf (to .left) table
-  pub room : Room out (to .place) (take (to .left) buf ++ endToEnd ks m)
-  pub all : to .place + to .left + length (endToEnd ks m) ≡ length (endToEnd passKinds m)
+  pub each : take i lengths ++ lengthsOf (drop i passKinds) m ≡ lengthsOf passKinds m
+  pub six : length lengths ≡ 6
 
--- the next text, and the others behind it
-module _ {m : List ℕ} {k : Kind} {ks : List Kind} {table buf out : List ℕ} {from : Left} (g : Going m (k ∷ ks) table buf out from)
-    {xs : List ℕ} (e : xs ≡ text k m) where
-  pub going-room : Room out (from .place) (take (from .left) buf ++ xs)
-  going-room = rw e (room-first (take (from .left) buf ++ text k m) (endToEnd ks m) (rw append-assoc (g .room)))
+module _ {m cs ns old : List ℕ} (t : Tokened m cs ns old) {table first : List ℕ} where
+  pub going-starts : Ready first 0 table → Going m table first old 0 first old (replicate 6 0) (goesOn 0 0)
+  going-starts h = record { done = []; whole = refl; wrote = added-none (omega arith); ready = h; each = refl; six = refl }
 
-  module _ {last new : List ℕ} {to : Left} (a : Added buf out from xs last new to) where
-    next : to .place + to .left ≡ from .place + from .left + length (text k m)
-    next = rw (← e) (added-next xs a (omega (arith, g .ready .long, g .ready .few)) (omega (arith, added-ready xs a (g .ready) .long, a .few)))
+  module _ {i : ℕ} {buf out lengths : List ℕ} {to : Left} (g : Going m table first old i buf out lengths to) where
+    -- room for the others behind what stands in the buffer
+    others-room : Room out (to .place) (take (to .left) buf ++ endToEnd (drop i passKinds) m)
+    others-room = added-room (g .done) (g .wrote) (endToEnd (drop i passKinds) m) (rw (g .whole) (record { fits = omega (arith, t .room) }))
 
-    pub going-on : Going m ks table last new to
-    going-on =
-        record {
-          ready = added-ready xs a (g .ready);
-          room = added-room xs a (endToEnd ks m) (rw e (g .room));
-          all = omega (arith, g .all, next, length-append (text k m) (endToEnd ks m));
-        }
+    so-far : to .place + to .left ≡ length (g .done)
+    so-far = rw zero-add at (added-next (g .done) (g .wrote) (omega arith) (omega (arith, g .ready .long, g .ready .few)))
 
-    pub going-between : length m ≤ 1048576 → (from .place + from .left ≤ to .place + to .left) × (to .place + to .left < 18446744073709551616)
-    going-between h = (omega (arith, next), omega (arith, going-on .all, roomy m))
+    module _ (h : i < 6) {f : Form} (e : f ≡ formOf (passKind i)) where
+      is-next : textOf f (paired cs ns) ≡ text (passKind i) m
+      is-next = made t (passKind i) (not-total i h) e
 
-    pub going-length : {r : ℕ} → r + (from .place + from .left) ≡ to .place + to .left → r ≡ length (text k m)
-    going-length h = omega (arith, next, h)
+      pub next-room : Room out (to .place) (take (to .left) buf ++ textOf f (paired cs ns))
+      next-room = rw is-next (room-first (take (to .left) buf ++ text (passKind i) m) (endToEnd (drop (suc i) passKinds) m) (rw append-assoc (rw (next-kind i h) at others-room)))
 
--- the texts of some kinds, added one after the other
-pub data Chained (m : List ℕ) : List Kind → List ℕ → List ℕ → Left → List ℕ → List ℕ → Left → Type 0 where
-  ended : {buf out : List ℕ} {to : Left} → to .left ≤ 448 → Chained m [] buf out to buf out to
-  then : {k : Kind} {ks : List Kind} {buf out : List ℕ} {from : Left} {xs last mid : List ℕ} {next : Left} {end new : List ℕ} {to : Left}
-      → xs ≡ text k m → Added buf out from xs last mid next → Chained m ks last mid next end new to → Chained m (k ∷ ks) buf out from end new to
+      module _ {last new : List ℕ} {next : Left} (a : Added buf out to (textOf f (paired cs ns)) last new next) where
+        behind : next .place + next .left ≡ length (g .done) + length (text (passKind i) m)
+        behind =
+            let n = added-next (textOf f (paired cs ns)) a (omega (arith, g .ready .long, g .ready .few)) (omega (arith, added-ready (textOf f (paired cs ns)) a (g .ready) .long, a .few)) in
+            omega (arith, n, so-far, ap {B = ℕ} length is-next)
 
-chained : {m : List ℕ} {ks : List Kind} {buf out : List ℕ} {from : Left} {end new : List ℕ} {to : Left} → Chained m ks buf out from end new to
-    → Added buf out from (endToEnd ks m) end new to
-chained (ended h) = added-none h
-chained {m} (then {k = k} {ks = ks} e a c) = added (text k m) (rw e at a) (endToEnd ks m) (chained c)
+        pub next-between : (to .place + to .left ≤ next .place + next .left) × (next .place + next .left < 18446744073709551616)
+        next-between =
+            let w = ap {B = ℕ} length (g .whole) in
+            let k = ap {B = ℕ} (λ ks. length (endToEnd ks m)) (next-kind i h) in
+            (omega (arith, so-far, behind), omega (arith, behind, w, length-append (g .done) (endToEnd (drop i passKinds) m), k, length-append (text (passKind i) m) (endToEnd (drop (suc i) passKinds) m), roomy m, t .few))
 
-module _ {m cs ns old : List ℕ} (t : Tokened m cs ns old) {table buf : List ℕ} (h : Ready buf 0 table) where
-  pub going : Going m passKinds table buf old (goesOn 0 0)
-  going = record { ready = h; room = record { fits = omega (arith, t .room) }; all = omega arith }
+        pub going-on : (r : ℕ) → r + (to .place + to .left) ≡ next .place + next .left → Going m table first old (i + 1) last new (set lengths i r) next
+        going-on r l =
+            let b : r ≡ length (text (passKind i) m) = omega (arith, l, so-far, behind) in
+            rw add-one
+            (record {
+              done = g .done ++ text (passKind i) m;
+              whole = rw append-assoc (rw (next-kind i h) at (g .whole));
+              wrote = added (g .done) (g .wrote) (text (passKind i) m) (rw is-next at a);
+              ready = added-ready (textOf f (paired cs ns)) a (g .ready);
+              each = rw (take-suc-set lengths i r (omega (arith, g .six)), append-assoc, b) (rw (next-kind i h) at (g .each));
+              six = length-set lengths i r ∙ g .six;
+            })
 
-  pub six : {last mid new : List ℕ} {to : Left} {r : ℕ} → Chained m passKinds buf old (goesOn 0 0) last mid to → Wrote mid new (to .place) (take (to .left) last) r
-      → new ≡ filled old (endToEnd passKinds m)
-  six {new = new} {r = r} c w = at-start (endToEnd passKinds m) old new r (t .room) (added-ends (endToEnd passKinds m) (chained c) w) .1
+    -- all six
+    module _ (h : 6 ≤ i) (l : i ≤ 6) where
+      all-done : i ≡ 6
+      all-done = omega arith
+
+      pub last-room : (to .left ≤ length buf) × Room out (to .place) (take (to .left) buf)
+      last-room = (omega (arith, g .ready .long, g .ready .few), rw append-nil at (rw all-done at others-room))
+
+      pub going-ends : {new : List ℕ} {r : ℕ} → Wrote out new (to .place) (take (to .left) buf) r → SixTexts m old new lengths
+      going-ends {new} {r} w =
+          let d : g .done ≡ endToEnd passKinds m = sym (append-nil (g .done)) ∙ (rw all-done at (g .whole)) in
+          let e : take 6 lengths ++ [] ≡ lengthsOf passKinds m = rw all-done at (g .each) in
+          record {
+            each = sym (take-all 6 lengths (omega (arith, g .six))) ∙ sym (append-nil (take 6 lengths)) ∙ e;
+            bytes = at-start (endToEnd passKinds m) old new r (t .room) (added-ends (endToEnd passKinds m) (rw d at (g .wrote)) w) .1;
+          }
 
 -- ---- questions 1, 2 and 4
 

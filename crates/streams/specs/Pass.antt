@@ -4,10 +4,13 @@ use Prim.Native.Nat.{ℕ, _≤_}
 use mathlib.Core.Path.{_≡_}
 use mathlib.Core.Logic.{_⊎_}
 use mathlib.Core.List.{List}
-use lib.ListN.{length, replicate}
+use lib.ListN.{length, getD, replicate}
 use Rattle.number.specs.Questions.{filled}
 use Rattle.rules.specs.Chart.{classes, tokens, noCounts}
 use Rattle.rules.specs.Texts.{passKinds, endToEnd, lengthsOf}
+use Rattle.rules.specs.declared.Kind.{Kind}
+use Rattle.rules.specs.declared.Kind.the-variants.{Sn as sn}
+use Rattle.rules.specs.declared.BreakdownMode.the-variants as Mode
 use Rattle.measures.specs.Scan.{paired}
 use Rattle.streams.specs.Promises.{passNo}
 use Rattle.streams.specs.declared.StreamOutputs.{StreamOutputs}
@@ -28,6 +31,10 @@ pub record Tokened (m cs ns old : List ℕ) : Type 0 where
   pub long : length cs ≡ length ns
   pub tokens : paired cs ns ≡ tokens (classes m)
   pub room : length (endToEnd passKinds m) ≤ length old
+
+-- the kind of text i of the pass
+abbrev pub passKind : ℕ → Kind
+passKind i = getD passKinds i (sn Mode.Detailed)
 
 -- the six texts end to end, and the length of each
 pub record SixTexts (m old new lengths : List ℕ) : Type 0 where

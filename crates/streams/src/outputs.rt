@@ -1,5 +1,6 @@
 // The pass: tokens, counts and six texts of a chart.
 use crate::StreamOutputs;
+use breakdown::form::Form;
 use breakdown::form::sn_form;
 use breakdown::form::standard_form;
 use breakdown::length::due_of_measures;
@@ -15,7 +16,8 @@ ghost use mathlib.Core.Path.{_≡_};
 ghost use mathlib.Core.Bool.{true};
 ghost use Rattle.text_buffer.specs.Buffer.{Ready};
 ghost use Rattle.streams.specs.Promises.{Outputs};
-ghost use Rattle.streams.specs.Pass.{FirstNo, Shorter, SixTexts, refusedPass, Tokened};
+ghost use Rattle.breakdown.specs.Forms.{formOf};
+ghost use Rattle.streams.specs.Pass.{FirstNo, Shorter, SixTexts, passKind, refusedPass, Tokened};
 
 // The places of the shorter token slice.
 fn shorter(classes: usize, lengths: usize) -> usize
@@ -65,6 +67,21 @@ fn between(from: Left, to: Left) -> usize
     to.place + to.left - (from.place + from.left)
 }
 
+// The form of text i of the pass.
+fn pass_form(i: usize) -> Form
+    requires { ⌜ i < 6 ⌝ }
+    ensures { λ r. ⌜ r ≡ formOf (passKind i) ⌝ }
+{
+    match i {
+        0 => sn_form(0),
+        1 => sn_form(1),
+        2 => sn_form(4),
+        3 => standard_form(0, false),
+        4 => standard_form(0, true),
+        _ => standard_form(1, true),
+    }
+}
+
 // The six texts end to end, by way of an empty buffer, from the tokens of `m`; the length of each is answered.
 fn put_six(
     m: &[u32],
@@ -78,22 +95,17 @@ fn put_six(
     requires { ⌜ Tokened (now m) (now cs) (now ns) (now out) × Ready (now buf) 0 (now words) ⌝ }
     ensures { λ r. ⌜ SixTexts (now (m .entry)) (now (out .entry)) (now (out .exit)) r ⌝ }
 {
-    let start = Left { place: 0, left: 0 };
-    let a = text_of_tokens(cs, ns, sn_form(0), dense, words, buf, out, start);
-    let b = text_of_tokens(cs, ns, sn_form(1), dense, words, buf, out, a);
-    let c = text_of_tokens(cs, ns, sn_form(4), dense, words, buf, out, b);
-    let d = text_of_tokens(cs, ns, standard_form(0, false), dense, words, buf, out, c);
-    let e = text_of_tokens(cs, ns, standard_form(0, true), dense, words, buf, out, d);
-    let f = text_of_tokens(cs, ns, standard_form(1, true), dense, words, buf, out, e);
-    put_buffer(out, f.place, buf, f.left);
-    [
-        between(start, a),
-        between(a, b),
-        between(b, c),
-        between(c, d),
-        between(d, e),
-        between(e, f),
-    ]
+    let mut lengths = [0usize; 6];
+    let mut to = Left { place: 0, left: 0 };
+    let mut i: usize = 0;
+    while i < 6 {
+        let next = text_of_tokens(cs, ns, pass_form(i), dense, words, buf, out, to);
+        lengths[i] = between(to, next);
+        to = next;
+        i += 1;
+    }
+    put_buffer(out, to.place, buf, to.left);
+    lengths
 }
 
 // .. with a table and a buffer of its own.

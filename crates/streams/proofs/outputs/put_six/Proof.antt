@@ -1,264 +1,79 @@
--- `streams::outputs::put_six` meets its contract.
+-- `streams::outputs::put_six` meets its contract: the loop's steps are `Pass`'s.
 -- Assumes nothing.
-use mathlib.Core.Path.{refl, _∙_}
-use native.Mathlib.Omega.{arith}
-use borrow.Author.Needs.{needs}
-use Rattle.number.proofs.Place.{room-first, wrote-length}
+use Prim.Native.Nat.{_-_, _≤_}
+use mathlib.Core.Path.{_∙_}
 use mathlib.Core.List.{[]}
-use Rattle.rules.specs.declared.Kind.the-variants.{Sn as sn, Standard as standard}
-use Rattle.rules.specs.declared.BreakdownMode.the-variants as Mode
-use Rattle.rules.specs.declared.StreamBreakdownLevel.the-variants as Level
+use native.Mathlib.Omega.{arith}
+use Rattle.number.proofs.Place.{wrote-length}
 use Rattle.text_buffer.proofs.Added.{added-out}
-use Rattle.streams.proofs.Pass.{source, made, going, going-room, going-on, going-between, going-length, ended, then, six}
+use Rattle.streams.proofs.Pass.{Going, source, going-starts, next-room, next-between, going-on, last-room, going-ends}
 use Rattle.streams.proofs.outputs.put_six.Statement.{statement}
 use Rattle.streams.proofs.outputs.put_six.Tie as tie
 
-sn-form-requires : tie.Need-sn-form-requires
-sn-form-requires c κs = search needs
+abbrev Inv-loop : tie.InvT-loop
+Inv-loop m cs ns dense words buf₀ out₀ lengths₀ to₀ i₀ buf out lengths to i = Going m words buf₀ out₀ i buf out lengths to × (i ≤ 6)
 
-text-of-tokens-requires : tie.Need-text-of-tokens-requires
+abbrev μ-loop : tie.MeasureT-loop
+μ-loop m cs ns dense words buf₀ out₀ lengths₀ to₀ i₀ buf out lengths to i = 6 - i
+
+loop-holds : tie.Need-loop-holds Inv-loop μ-loop
+loop-holds c = let p = c .before .before .before .before .before .pre in (going-starts (p .0) (p .1), omega arith)
+
+pass-form-requires : tie.Need-pass-form-requires Inv-loop μ-loop
+pass-form-requires c κs = c .loop-test .taken
+
+text-of-tokens-requires : tie.Need-text-of-tokens-requires Inv-loop μ-loop
 text-of-tokens-requires c κs =
-    let p = c .before .before .before .before .before .before .before .before .pre in
-    let e₁ = made (p .0) (sn Mode.Detailed) refl (c .before .before .sn-form .ensures) in
-    let g₀ = going (p .0) (p .1) in
-    (source (p .0), g₀ .ready, going-room g₀ e₁)
+    let p = c .before .before .before .before .before .before .before .before .before .before .pre in
+    let g = c .before .before .before .before .loop .inv .0 in
+    (source (p .0), g .ready, next-room (p .0) g (c .before .before .before .loop-test .taken) (c .before .before .pass-form .ensures))
 
-sn-form-requires-2 : tie.Need-sn-form-requires-2
-sn-form-requires-2 c κs = search needs
+between-requires : tie.Need-between-requires Inv-loop μ-loop
+between-requires c κs = next-between (c .before .before .before .before .before .before .before .before .before .before .before .before .before .before .before .pre .0) (c .before .before .before .before .before .before .before .before .before .loop .inv .0) (c .before .before .before .before .before .before .before .before .loop-test .taken) (c .before .before .before .before .before .before .before .pass-form .ensures) (c .before .before .before .before .text-of-tokens .ensures)
 
-text-of-tokens-requires-2 : tie.Need-text-of-tokens-requires-2
-text-of-tokens-requires-2 c κs =
-    let p = c .before .before .before .before .before .before .before .before .before .before .before .before .before .before .before .before .pre in
-    let e₁ = made (p .0) (sn Mode.Detailed) refl (c .before .before .before .before .before .before .before .before .before .before .sn-form .ensures) in
-    let e₂ = made (p .0) (sn Mode.Partial) refl (c .before .before .sn-form2 .ensures) in
-    let g₀ = going (p .0) (p .1) in
-    let g₁ = going-on g₀ e₁ (c .before .before .before .before .before .before .before .text-of-tokens .ensures) in
-    (source (p .0), g₁ .ready, going-room g₁ e₂)
+mul-lengths : tie.Need-mul-lengths Inv-loop μ-loop
+mul-lengths c = omega (arith, c .before .before .before .before .before .before .before .before .before .loop-test .taken)
 
-sn-form-requires-3 : tie.Need-sn-form-requires-3
-sn-form-requires-3 c κs = search needs
+array-write-lengths : tie.Need-array-write-lengths Inv-loop μ-loop
+array-write-lengths c = omega (arith, c .before .before .before .before .before .before .before .before .before .loop-test .taken, c .before .before .before .before .before .before .before .before .before .before .loop .inv .0 .six)
 
-text-of-tokens-requires-3 : tie.Need-text-of-tokens-requires-3
-text-of-tokens-requires-3 c κs =
-    let p = c .before .before .before .before .before .before .before .before .before .before .before .before .before .before .before .before .before .before .before .before .before .before .before .before .pre in
-    let e₁ = made (p .0) (sn Mode.Detailed) refl (c .before .before .before .before .before .before .before .before .before .before .before .before .before .before .before .before .before .before .sn-form .ensures) in
-    let e₂ = made (p .0) (sn Mode.Partial) refl (c .before .before .before .before .before .before .before .before .before .before .sn-form2 .ensures) in
-    let e₃ = made (p .0) (sn Mode.Simplified) refl (c .before .before .sn-form3 .ensures) in
-    let g₀ = going (p .0) (p .1) in
-    let g₁ = going-on g₀ e₁ (c .before .before .before .before .before .before .before .before .before .before .before .before .before .before .before .text-of-tokens .ensures) in
-    let g₂ = going-on g₁ e₂ (c .before .before .before .before .before .before .before .text-of-tokens2 .ensures) in
-    (source (p .0), g₂ .ready, going-room g₂ e₃)
+add-i : tie.Need-add-i Inv-loop μ-loop
+add-i c = omega (arith, c .before .before .before .before .before .before .before .before .before .loop-test .taken)
 
-standard-form-requires : tie.Need-standard-form-requires
-standard-form-requires c κs = search needs
+loop-less : tie.Need-loop-less Inv-loop μ-loop
+loop-less c = omega (arith, c .before .before .before .before .before .before .before .before .before .loop-test .taken)
 
-text-of-tokens-requires-4 : tie.Need-text-of-tokens-requires-4
-text-of-tokens-requires-4 c κs =
-    let p = c .before .before .before .before .before .before .before .before .before .before .before .before .before .before .before .before .before .before .before .before .before .before .before .before .before .before .before .before .before .before .before .before .pre in
-    let e₁ = made (p .0) (sn Mode.Detailed) refl (c .before .before .before .before .before .before .before .before .before .before .before .before .before .before .before .before .before .before .before .before .before .before .before .before .before .before .sn-form .ensures) in
-    let e₂ = made (p .0) (sn Mode.Partial) refl (c .before .before .before .before .before .before .before .before .before .before .before .before .before .before .before .before .before .before .sn-form2 .ensures) in
-    let e₃ = made (p .0) (sn Mode.Simplified) refl (c .before .before .before .before .before .before .before .before .before .before .sn-form3 .ensures) in
-    let e₄ = made (p .0) (standard Level.Detailed) refl (c .before .before .standard-form .ensures) in
-    let g₀ = going (p .0) (p .1) in
-    let g₁ = going-on g₀ e₁ (c .before .before .before .before .before .before .before .before .before .before .before .before .before .before .before .before .before .before .before .before .before .before .before .text-of-tokens .ensures) in
-    let g₂ = going-on g₁ e₂ (c .before .before .before .before .before .before .before .before .before .before .before .before .before .before .before .text-of-tokens2 .ensures) in
-    let g₃ = going-on g₂ e₃ (c .before .before .before .before .before .before .before .text-of-tokens3 .ensures) in
-    (source (p .0), g₃ .ready, going-room g₃ e₄)
+loop-again : tie.Need-loop-again Inv-loop μ-loop
+loop-again c = (going-on (c .before .before .before .before .before .before .before .before .before .before .before .before .before .before .before .before .pre .0) (c .before .before .before .before .before .before .before .before .before .before .loop .inv .0) (c .before .before .before .before .before .before .before .before .before .loop-test .taken) (c .before .before .before .before .before .before .before .before .pass-form .ensures) (c .before .before .before .before .before .text-of-tokens .ensures) _ (c .between .ensures), omega (arith, c .before .before .before .before .before .before .before .before .before .loop-test .taken))
 
-standard-form-requires-2 : tie.Need-standard-form-requires-2
-standard-form-requires-2 c κs = search needs
+put-buffer-requires : tie.Need-put-buffer-requires Inv-loop μ-loop
+put-buffer-requires c κs = let i = c .before .before .before .loop .inv in last-room (c .before .before .before .before .before .before .before .before .before .pre .0) (i .0) (c .before .before .loop-test .left) (i .1)
 
-text-of-tokens-requires-5 : tie.Need-text-of-tokens-requires-5
-text-of-tokens-requires-5 c κs =
-    let p = c .before .before .before .before .before .before .before .before .before .before .before .before .before .before .before .before .before .before .before .before .before .before .before .before .before .before .before .before .before .before .before .before .before .before .before .before .before .before .before .before .pre in
-    let e₁ = made (p .0) (sn Mode.Detailed) refl (c .before .before .before .before .before .before .before .before .before .before .before .before .before .before .before .before .before .before .before .before .before .before .before .before .before .before .before .before .before .before .before .before .before .before .sn-form .ensures) in
-    let e₂ = made (p .0) (sn Mode.Partial) refl (c .before .before .before .before .before .before .before .before .before .before .before .before .before .before .before .before .before .before .before .before .before .before .before .before .before .before .sn-form2 .ensures) in
-    let e₃ = made (p .0) (sn Mode.Simplified) refl (c .before .before .before .before .before .before .before .before .before .before .before .before .before .before .before .before .before .before .sn-form3 .ensures) in
-    let e₄ = made (p .0) (standard Level.Detailed) refl (c .before .before .before .before .before .before .before .before .before .before .standard-form .ensures) in
-    let e₅ = made (p .0) (standard Level.Partial) refl (c .before .before .standard-form2 .ensures) in
-    let g₀ = going (p .0) (p .1) in
-    let g₁ = going-on g₀ e₁ (c .before .before .before .before .before .before .before .before .before .before .before .before .before .before .before .before .before .before .before .before .before .before .before .before .before .before .before .before .before .before .before .text-of-tokens .ensures) in
-    let g₂ = going-on g₁ e₂ (c .before .before .before .before .before .before .before .before .before .before .before .before .before .before .before .before .before .before .before .before .before .before .before .text-of-tokens2 .ensures) in
-    let g₃ = going-on g₂ e₃ (c .before .before .before .before .before .before .before .before .before .before .before .before .before .before .before .text-of-tokens3 .ensures) in
-    let g₄ = going-on g₃ e₄ (c .before .before .before .before .before .before .before .text-of-tokens4 .ensures) in
-    (source (p .0), g₄ .ready, going-room g₄ e₅)
+same-length : tie.Need-same-length Inv-loop μ-loop
+same-length c = c .before .before .before .before .before .before .loop .inv .0 .wrote .long
 
-standard-form-requires-3 : tie.Need-standard-form-requires-3
-standard-form-requires-3 c κs = search needs
+same-length-2 : tie.Need-same-length-2 Inv-loop μ-loop
+same-length-2 c = wrote-length _ [] (c .before .before .put-buffer .ensures) ∙ added-out _ (c .before .before .before .before .before .before .loop .inv .0 .wrote)
 
-text-of-tokens-requires-6 : tie.Need-text-of-tokens-requires-6
-text-of-tokens-requires-6 c κs =
-    let p = c .before .before .before .before .before .before .before .before .before .before .before .before .before .before .before .before .before .before .before .before .before .before .before .before .before .before .before .before .before .before .before .before .before .before .before .before .before .before .before .before .before .before .before .before .before .before .before .before .pre in
-    let e₁ = made (p .0) (sn Mode.Detailed) refl (c .before .before .before .before .before .before .before .before .before .before .before .before .before .before .before .before .before .before .before .before .before .before .before .before .before .before .before .before .before .before .before .before .before .before .before .before .before .before .before .before .before .before .sn-form .ensures) in
-    let e₂ = made (p .0) (sn Mode.Partial) refl (c .before .before .before .before .before .before .before .before .before .before .before .before .before .before .before .before .before .before .before .before .before .before .before .before .before .before .before .before .before .before .before .before .before .before .sn-form2 .ensures) in
-    let e₃ = made (p .0) (sn Mode.Simplified) refl (c .before .before .before .before .before .before .before .before .before .before .before .before .before .before .before .before .before .before .before .before .before .before .before .before .before .before .sn-form3 .ensures) in
-    let e₄ = made (p .0) (standard Level.Detailed) refl (c .before .before .before .before .before .before .before .before .before .before .before .before .before .before .before .before .before .before .standard-form .ensures) in
-    let e₅ = made (p .0) (standard Level.Partial) refl (c .before .before .before .before .before .before .before .before .before .before .standard-form2 .ensures) in
-    let e₆ = made (p .0) (standard Level.Simple) refl (c .before .before .standard-form3 .ensures) in
-    let g₀ = going (p .0) (p .1) in
-    let g₁ = going-on g₀ e₁ (c .before .before .before .before .before .before .before .before .before .before .before .before .before .before .before .before .before .before .before .before .before .before .before .before .before .before .before .before .before .before .before .before .before .before .before .before .before .before .before .text-of-tokens .ensures) in
-    let g₂ = going-on g₁ e₂ (c .before .before .before .before .before .before .before .before .before .before .before .before .before .before .before .before .before .before .before .before .before .before .before .before .before .before .before .before .before .before .before .text-of-tokens2 .ensures) in
-    let g₃ = going-on g₂ e₃ (c .before .before .before .before .before .before .before .before .before .before .before .before .before .before .before .before .before .before .before .before .before .before .before .text-of-tokens3 .ensures) in
-    let g₄ = going-on g₃ e₄ (c .before .before .before .before .before .before .before .before .before .before .before .before .before .before .before .text-of-tokens4 .ensures) in
-    let g₅ = going-on g₄ e₅ (c .before .before .before .before .before .before .before .text-of-tokens5 .ensures) in
-    (source (p .0), g₅ .ready, going-room g₅ e₆)
-
-put-buffer-requires : tie.Need-put-buffer-requires
-put-buffer-requires c κs =
-    let p = c .before .before .before .before .before .before .before .before .before .before .before .before .before .before .before .before .before .before .before .before .before .before .before .before .before .before .before .before .before .before .before .before .before .before .before .before .before .before .before .before .before .before .before .before .before .before .before .before .before .before .before .before .before .before .before .pre in
-    let e₁ = made (p .0) (sn Mode.Detailed) refl (c .before .before .before .before .before .before .before .before .before .before .before .before .before .before .before .before .before .before .before .before .before .before .before .before .before .before .before .before .before .before .before .before .before .before .before .before .before .before .before .before .before .before .before .before .before .before .before .before .before .sn-form .ensures) in
-    let e₂ = made (p .0) (sn Mode.Partial) refl (c .before .before .before .before .before .before .before .before .before .before .before .before .before .before .before .before .before .before .before .before .before .before .before .before .before .before .before .before .before .before .before .before .before .before .before .before .before .before .before .before .before .sn-form2 .ensures) in
-    let e₃ = made (p .0) (sn Mode.Simplified) refl (c .before .before .before .before .before .before .before .before .before .before .before .before .before .before .before .before .before .before .before .before .before .before .before .before .before .before .before .before .before .before .before .before .before .sn-form3 .ensures) in
-    let e₄ = made (p .0) (standard Level.Detailed) refl (c .before .before .before .before .before .before .before .before .before .before .before .before .before .before .before .before .before .before .before .before .before .before .before .before .before .standard-form .ensures) in
-    let e₅ = made (p .0) (standard Level.Partial) refl (c .before .before .before .before .before .before .before .before .before .before .before .before .before .before .before .before .before .standard-form2 .ensures) in
-    let e₆ = made (p .0) (standard Level.Simple) refl (c .before .before .before .before .before .before .before .before .before .standard-form3 .ensures) in
-    let g₀ = going (p .0) (p .1) in
-    let g₁ = going-on g₀ e₁ (c .before .before .before .before .before .before .before .before .before .before .before .before .before .before .before .before .before .before .before .before .before .before .before .before .before .before .before .before .before .before .before .before .before .before .before .before .before .before .before .before .before .before .before .before .before .before .text-of-tokens .ensures) in
-    let g₂ = going-on g₁ e₂ (c .before .before .before .before .before .before .before .before .before .before .before .before .before .before .before .before .before .before .before .before .before .before .before .before .before .before .before .before .before .before .before .before .before .before .before .before .before .before .text-of-tokens2 .ensures) in
-    let g₃ = going-on g₂ e₃ (c .before .before .before .before .before .before .before .before .before .before .before .before .before .before .before .before .before .before .before .before .before .before .before .before .before .before .before .before .before .before .text-of-tokens3 .ensures) in
-    let g₄ = going-on g₃ e₄ (c .before .before .before .before .before .before .before .before .before .before .before .before .before .before .before .before .before .before .before .before .before .before .text-of-tokens4 .ensures) in
-    let g₅ = going-on g₄ e₅ (c .before .before .before .before .before .before .before .before .before .before .before .before .before .before .text-of-tokens5 .ensures) in
-    let g₆ = going-on g₅ e₆ (c .before .before .before .before .before .before .text-of-tokens6 .ensures) in
-    (omega (arith, g₆ .ready .long, g₆ .ready .few), room-first _ [] (g₆ .room))
-
-between-requires : tie.Need-between-requires
-between-requires c κs =
-    let p = c .before .before .before .before .before .before .before .before .before .before .before .before .before .before .before .before .before .before .before .before .before .before .before .before .before .before .before .before .before .before .before .before .before .before .before .before .before .before .before .before .before .before .before .before .before .before .before .before .before .before .before .before .before .before .before .before .before .before .pre in
-    let e₁ = made (p .0) (sn Mode.Detailed) refl (c .before .before .before .before .before .before .before .before .before .before .before .before .before .before .before .before .before .before .before .before .before .before .before .before .before .before .before .before .before .before .before .before .before .before .before .before .before .before .before .before .before .before .before .before .before .before .before .before .before .before .before .before .sn-form .ensures) in
-    let g₀ = going (p .0) (p .1) in
-    going-between g₀ e₁ (c .before .before .before .before .before .before .before .before .before .before .before .before .before .before .before .before .before .before .before .before .before .before .before .before .before .before .before .before .before .before .before .before .before .before .before .before .before .before .before .before .before .before .before .before .before .before .before .before .before .text-of-tokens .ensures) (p .0 .few)
-
-between-requires-2 : tie.Need-between-requires-2
-between-requires-2 c κs =
-    let p = c .before .before .before .before .before .before .before .before .before .before .before .before .before .before .before .before .before .before .before .before .before .before .before .before .before .before .before .before .before .before .before .before .before .before .before .before .before .before .before .before .before .before .before .before .before .before .before .before .before .before .before .before .before .before .before .before .before .before .before .pre in
-    let e₁ = made (p .0) (sn Mode.Detailed) refl (c .before .before .before .before .before .before .before .before .before .before .before .before .before .before .before .before .before .before .before .before .before .before .before .before .before .before .before .before .before .before .before .before .before .before .before .before .before .before .before .before .before .before .before .before .before .before .before .before .before .before .before .before .before .sn-form .ensures) in
-    let e₂ = made (p .0) (sn Mode.Partial) refl (c .before .before .before .before .before .before .before .before .before .before .before .before .before .before .before .before .before .before .before .before .before .before .before .before .before .before .before .before .before .before .before .before .before .before .before .before .before .before .before .before .before .before .before .before .before .sn-form2 .ensures) in
-    let g₀ = going (p .0) (p .1) in
-    let g₁ = going-on g₀ e₁ (c .before .before .before .before .before .before .before .before .before .before .before .before .before .before .before .before .before .before .before .before .before .before .before .before .before .before .before .before .before .before .before .before .before .before .before .before .before .before .before .before .before .before .before .before .before .before .before .before .before .before .text-of-tokens .ensures) in
-    going-between g₁ e₂ (c .before .before .before .before .before .before .before .before .before .before .before .before .before .before .before .before .before .before .before .before .before .before .before .before .before .before .before .before .before .before .before .before .before .before .before .before .before .before .before .before .before .before .text-of-tokens2 .ensures) (p .0 .few)
-
-between-requires-3 : tie.Need-between-requires-3
-between-requires-3 c κs =
-    let p = c .before .before .before .before .before .before .before .before .before .before .before .before .before .before .before .before .before .before .before .before .before .before .before .before .before .before .before .before .before .before .before .before .before .before .before .before .before .before .before .before .before .before .before .before .before .before .before .before .before .before .before .before .before .before .before .before .before .before .before .before .pre in
-    let e₁ = made (p .0) (sn Mode.Detailed) refl (c .before .before .before .before .before .before .before .before .before .before .before .before .before .before .before .before .before .before .before .before .before .before .before .before .before .before .before .before .before .before .before .before .before .before .before .before .before .before .before .before .before .before .before .before .before .before .before .before .before .before .before .before .before .before .sn-form .ensures) in
-    let e₂ = made (p .0) (sn Mode.Partial) refl (c .before .before .before .before .before .before .before .before .before .before .before .before .before .before .before .before .before .before .before .before .before .before .before .before .before .before .before .before .before .before .before .before .before .before .before .before .before .before .before .before .before .before .before .before .before .before .sn-form2 .ensures) in
-    let e₃ = made (p .0) (sn Mode.Simplified) refl (c .before .before .before .before .before .before .before .before .before .before .before .before .before .before .before .before .before .before .before .before .before .before .before .before .before .before .before .before .before .before .before .before .before .before .before .before .before .before .sn-form3 .ensures) in
-    let g₀ = going (p .0) (p .1) in
-    let g₁ = going-on g₀ e₁ (c .before .before .before .before .before .before .before .before .before .before .before .before .before .before .before .before .before .before .before .before .before .before .before .before .before .before .before .before .before .before .before .before .before .before .before .before .before .before .before .before .before .before .before .before .before .before .before .before .before .before .before .text-of-tokens .ensures) in
-    let g₂ = going-on g₁ e₂ (c .before .before .before .before .before .before .before .before .before .before .before .before .before .before .before .before .before .before .before .before .before .before .before .before .before .before .before .before .before .before .before .before .before .before .before .before .before .before .before .before .before .before .before .text-of-tokens2 .ensures) in
-    going-between g₂ e₃ (c .before .before .before .before .before .before .before .before .before .before .before .before .before .before .before .before .before .before .before .before .before .before .before .before .before .before .before .before .before .before .before .before .before .before .before .text-of-tokens3 .ensures) (p .0 .few)
-
-between-requires-4 : tie.Need-between-requires-4
-between-requires-4 c κs =
-    let p = c .before .before .before .before .before .before .before .before .before .before .before .before .before .before .before .before .before .before .before .before .before .before .before .before .before .before .before .before .before .before .before .before .before .before .before .before .before .before .before .before .before .before .before .before .before .before .before .before .before .before .before .before .before .before .before .before .before .before .before .before .before .pre in
-    let e₁ = made (p .0) (sn Mode.Detailed) refl (c .before .before .before .before .before .before .before .before .before .before .before .before .before .before .before .before .before .before .before .before .before .before .before .before .before .before .before .before .before .before .before .before .before .before .before .before .before .before .before .before .before .before .before .before .before .before .before .before .before .before .before .before .before .before .before .sn-form .ensures) in
-    let e₂ = made (p .0) (sn Mode.Partial) refl (c .before .before .before .before .before .before .before .before .before .before .before .before .before .before .before .before .before .before .before .before .before .before .before .before .before .before .before .before .before .before .before .before .before .before .before .before .before .before .before .before .before .before .before .before .before .before .before .sn-form2 .ensures) in
-    let e₃ = made (p .0) (sn Mode.Simplified) refl (c .before .before .before .before .before .before .before .before .before .before .before .before .before .before .before .before .before .before .before .before .before .before .before .before .before .before .before .before .before .before .before .before .before .before .before .before .before .before .before .sn-form3 .ensures) in
-    let e₄ = made (p .0) (standard Level.Detailed) refl (c .before .before .before .before .before .before .before .before .before .before .before .before .before .before .before .before .before .before .before .before .before .before .before .before .before .before .before .before .before .before .before .standard-form .ensures) in
-    let g₀ = going (p .0) (p .1) in
-    let g₁ = going-on g₀ e₁ (c .before .before .before .before .before .before .before .before .before .before .before .before .before .before .before .before .before .before .before .before .before .before .before .before .before .before .before .before .before .before .before .before .before .before .before .before .before .before .before .before .before .before .before .before .before .before .before .before .before .before .before .before .text-of-tokens .ensures) in
-    let g₂ = going-on g₁ e₂ (c .before .before .before .before .before .before .before .before .before .before .before .before .before .before .before .before .before .before .before .before .before .before .before .before .before .before .before .before .before .before .before .before .before .before .before .before .before .before .before .before .before .before .before .before .text-of-tokens2 .ensures) in
-    let g₃ = going-on g₂ e₃ (c .before .before .before .before .before .before .before .before .before .before .before .before .before .before .before .before .before .before .before .before .before .before .before .before .before .before .before .before .before .before .before .before .before .before .before .before .text-of-tokens3 .ensures) in
-    going-between g₃ e₄ (c .before .before .before .before .before .before .before .before .before .before .before .before .before .before .before .before .before .before .before .before .before .before .before .before .before .before .before .before .text-of-tokens4 .ensures) (p .0 .few)
-
-between-requires-5 : tie.Need-between-requires-5
-between-requires-5 c κs =
-    let p = c .before .before .before .before .before .before .before .before .before .before .before .before .before .before .before .before .before .before .before .before .before .before .before .before .before .before .before .before .before .before .before .before .before .before .before .before .before .before .before .before .before .before .before .before .before .before .before .before .before .before .before .before .before .before .before .before .before .before .before .before .before .before .pre in
-    let e₁ = made (p .0) (sn Mode.Detailed) refl (c .before .before .before .before .before .before .before .before .before .before .before .before .before .before .before .before .before .before .before .before .before .before .before .before .before .before .before .before .before .before .before .before .before .before .before .before .before .before .before .before .before .before .before .before .before .before .before .before .before .before .before .before .before .before .before .before .sn-form .ensures) in
-    let e₂ = made (p .0) (sn Mode.Partial) refl (c .before .before .before .before .before .before .before .before .before .before .before .before .before .before .before .before .before .before .before .before .before .before .before .before .before .before .before .before .before .before .before .before .before .before .before .before .before .before .before .before .before .before .before .before .before .before .before .before .sn-form2 .ensures) in
-    let e₃ = made (p .0) (sn Mode.Simplified) refl (c .before .before .before .before .before .before .before .before .before .before .before .before .before .before .before .before .before .before .before .before .before .before .before .before .before .before .before .before .before .before .before .before .before .before .before .before .before .before .before .before .sn-form3 .ensures) in
-    let e₄ = made (p .0) (standard Level.Detailed) refl (c .before .before .before .before .before .before .before .before .before .before .before .before .before .before .before .before .before .before .before .before .before .before .before .before .before .before .before .before .before .before .before .before .standard-form .ensures) in
-    let e₅ = made (p .0) (standard Level.Partial) refl (c .before .before .before .before .before .before .before .before .before .before .before .before .before .before .before .before .before .before .before .before .before .before .before .before .standard-form2 .ensures) in
-    let g₀ = going (p .0) (p .1) in
-    let g₁ = going-on g₀ e₁ (c .before .before .before .before .before .before .before .before .before .before .before .before .before .before .before .before .before .before .before .before .before .before .before .before .before .before .before .before .before .before .before .before .before .before .before .before .before .before .before .before .before .before .before .before .before .before .before .before .before .before .before .before .before .text-of-tokens .ensures) in
-    let g₂ = going-on g₁ e₂ (c .before .before .before .before .before .before .before .before .before .before .before .before .before .before .before .before .before .before .before .before .before .before .before .before .before .before .before .before .before .before .before .before .before .before .before .before .before .before .before .before .before .before .before .before .before .text-of-tokens2 .ensures) in
-    let g₃ = going-on g₂ e₃ (c .before .before .before .before .before .before .before .before .before .before .before .before .before .before .before .before .before .before .before .before .before .before .before .before .before .before .before .before .before .before .before .before .before .before .before .before .before .text-of-tokens3 .ensures) in
-    let g₄ = going-on g₃ e₄ (c .before .before .before .before .before .before .before .before .before .before .before .before .before .before .before .before .before .before .before .before .before .before .before .before .before .before .before .before .before .text-of-tokens4 .ensures) in
-    going-between g₄ e₅ (c .before .before .before .before .before .before .before .before .before .before .before .before .before .before .before .before .before .before .before .before .before .text-of-tokens5 .ensures) (p .0 .few)
-
-between-requires-6 : tie.Need-between-requires-6
-between-requires-6 c κs =
-    let p = c .before .before .before .before .before .before .before .before .before .before .before .before .before .before .before .before .before .before .before .before .before .before .before .before .before .before .before .before .before .before .before .before .before .before .before .before .before .before .before .before .before .before .before .before .before .before .before .before .before .before .before .before .before .before .before .before .before .before .before .before .before .before .before .pre in
-    let e₁ = made (p .0) (sn Mode.Detailed) refl (c .before .before .before .before .before .before .before .before .before .before .before .before .before .before .before .before .before .before .before .before .before .before .before .before .before .before .before .before .before .before .before .before .before .before .before .before .before .before .before .before .before .before .before .before .before .before .before .before .before .before .before .before .before .before .before .before .before .sn-form .ensures) in
-    let e₂ = made (p .0) (sn Mode.Partial) refl (c .before .before .before .before .before .before .before .before .before .before .before .before .before .before .before .before .before .before .before .before .before .before .before .before .before .before .before .before .before .before .before .before .before .before .before .before .before .before .before .before .before .before .before .before .before .before .before .before .before .sn-form2 .ensures) in
-    let e₃ = made (p .0) (sn Mode.Simplified) refl (c .before .before .before .before .before .before .before .before .before .before .before .before .before .before .before .before .before .before .before .before .before .before .before .before .before .before .before .before .before .before .before .before .before .before .before .before .before .before .before .before .before .sn-form3 .ensures) in
-    let e₄ = made (p .0) (standard Level.Detailed) refl (c .before .before .before .before .before .before .before .before .before .before .before .before .before .before .before .before .before .before .before .before .before .before .before .before .before .before .before .before .before .before .before .before .before .standard-form .ensures) in
-    let e₅ = made (p .0) (standard Level.Partial) refl (c .before .before .before .before .before .before .before .before .before .before .before .before .before .before .before .before .before .before .before .before .before .before .before .before .before .standard-form2 .ensures) in
-    let e₆ = made (p .0) (standard Level.Simple) refl (c .before .before .before .before .before .before .before .before .before .before .before .before .before .before .before .before .before .standard-form3 .ensures) in
-    let g₀ = going (p .0) (p .1) in
-    let g₁ = going-on g₀ e₁ (c .before .before .before .before .before .before .before .before .before .before .before .before .before .before .before .before .before .before .before .before .before .before .before .before .before .before .before .before .before .before .before .before .before .before .before .before .before .before .before .before .before .before .before .before .before .before .before .before .before .before .before .before .before .before .text-of-tokens .ensures) in
-    let g₂ = going-on g₁ e₂ (c .before .before .before .before .before .before .before .before .before .before .before .before .before .before .before .before .before .before .before .before .before .before .before .before .before .before .before .before .before .before .before .before .before .before .before .before .before .before .before .before .before .before .before .before .before .before .text-of-tokens2 .ensures) in
-    let g₃ = going-on g₂ e₃ (c .before .before .before .before .before .before .before .before .before .before .before .before .before .before .before .before .before .before .before .before .before .before .before .before .before .before .before .before .before .before .before .before .before .before .before .before .before .before .text-of-tokens3 .ensures) in
-    let g₄ = going-on g₃ e₄ (c .before .before .before .before .before .before .before .before .before .before .before .before .before .before .before .before .before .before .before .before .before .before .before .before .before .before .before .before .before .before .text-of-tokens4 .ensures) in
-    let g₅ = going-on g₄ e₅ (c .before .before .before .before .before .before .before .before .before .before .before .before .before .before .before .before .before .before .before .before .before .before .text-of-tokens5 .ensures) in
-    going-between g₅ e₆ (c .before .before .before .before .before .before .before .before .before .before .before .before .before .before .text-of-tokens6 .ensures) (p .0 .few)
-
-same-length : tie.Need-same-length
-same-length c =
-    c .before .before .before .before .before .before .before .before .before .before .before .before .before .before .before .text-of-tokens6 .ensures .long
-    ∙ c .before .before .before .before .before .before .before .before .before .before .before .before .before .before .before .before .before .before .before .before .before .before .before .text-of-tokens5 .ensures .long
-    ∙ c .before .before .before .before .before .before .before .before .before .before .before .before .before .before .before .before .before .before .before .before .before .before .before .before .before .before .before .before .before .before .before .text-of-tokens4 .ensures .long
-    ∙ c .before .before .before .before .before .before .before .before .before .before .before .before .before .before .before .before .before .before .before .before .before .before .before .before .before .before .before .before .before .before .before .before .before .before .before .before .before .before .before .text-of-tokens3 .ensures .long
-    ∙ c .before .before .before .before .before .before .before .before .before .before .before .before .before .before .before .before .before .before .before .before .before .before .before .before .before .before .before .before .before .before .before .before .before .before .before .before .before .before .before .before .before .before .before .before .before .before .before .text-of-tokens2 .ensures .long
-    ∙ c .before .before .before .before .before .before .before .before .before .before .before .before .before .before .before .before .before .before .before .before .before .before .before .before .before .before .before .before .before .before .before .before .before .before .before .before .before .before .before .before .before .before .before .before .before .before .before .before .before .before .before .before .before .before .before .text-of-tokens .ensures .long
-
-same-length-2 : tie.Need-same-length-2
-same-length-2 c =
-    wrote-length _ [] (c .before .before .before .before .before .before .before .before .put-buffer .ensures)
-    ∙ added-out _ (c .before .before .before .before .before .before .before .before .before .before .before .before .before .before .before .text-of-tokens6 .ensures)
-    ∙ added-out _ (c .before .before .before .before .before .before .before .before .before .before .before .before .before .before .before .before .before .before .before .before .before .before .before .text-of-tokens5 .ensures)
-    ∙ added-out _ (c .before .before .before .before .before .before .before .before .before .before .before .before .before .before .before .before .before .before .before .before .before .before .before .before .before .before .before .before .before .before .before .text-of-tokens4 .ensures)
-    ∙ added-out _ (c .before .before .before .before .before .before .before .before .before .before .before .before .before .before .before .before .before .before .before .before .before .before .before .before .before .before .before .before .before .before .before .before .before .before .before .before .before .before .before .text-of-tokens3 .ensures)
-    ∙ added-out _ (c .before .before .before .before .before .before .before .before .before .before .before .before .before .before .before .before .before .before .before .before .before .before .before .before .before .before .before .before .before .before .before .before .before .before .before .before .before .before .before .before .before .before .before .before .before .before .before .text-of-tokens2 .ensures)
-    ∙ added-out _ (c .before .before .before .before .before .before .before .before .before .before .before .before .before .before .before .before .before .before .before .before .before .before .before .before .before .before .before .before .before .before .before .before .before .before .before .before .before .before .before .before .before .before .before .before .before .before .before .before .before .before .before .before .before .before .before .text-of-tokens .ensures)
-
-returns : tie.Need-returns
-returns c =
-    let p = c .before .before .before .before .before .before .before .before .before .before .before .before .before .before .before .before .before .before .before .before .before .before .before .before .before .before .before .before .before .before .before .before .before .before .before .before .before .before .before .before .before .before .before .before .before .before .before .before .before .before .before .before .before .before .before .before .before .before .before .before .before .before .before .before .pre in
-    let e₁ = made (p .0) (sn Mode.Detailed) refl (c .before .before .before .before .before .before .before .before .before .before .before .before .before .before .before .before .before .before .before .before .before .before .before .before .before .before .before .before .before .before .before .before .before .before .before .before .before .before .before .before .before .before .before .before .before .before .before .before .before .before .before .before .before .before .before .before .before .before .sn-form .ensures) in
-    let e₂ = made (p .0) (sn Mode.Partial) refl (c .before .before .before .before .before .before .before .before .before .before .before .before .before .before .before .before .before .before .before .before .before .before .before .before .before .before .before .before .before .before .before .before .before .before .before .before .before .before .before .before .before .before .before .before .before .before .before .before .before .before .sn-form2 .ensures) in
-    let e₃ = made (p .0) (sn Mode.Simplified) refl (c .before .before .before .before .before .before .before .before .before .before .before .before .before .before .before .before .before .before .before .before .before .before .before .before .before .before .before .before .before .before .before .before .before .before .before .before .before .before .before .before .before .before .sn-form3 .ensures) in
-    let e₄ = made (p .0) (standard Level.Detailed) refl (c .before .before .before .before .before .before .before .before .before .before .before .before .before .before .before .before .before .before .before .before .before .before .before .before .before .before .before .before .before .before .before .before .before .before .standard-form .ensures) in
-    let e₅ = made (p .0) (standard Level.Partial) refl (c .before .before .before .before .before .before .before .before .before .before .before .before .before .before .before .before .before .before .before .before .before .before .before .before .before .before .standard-form2 .ensures) in
-    let e₆ = made (p .0) (standard Level.Simple) refl (c .before .before .before .before .before .before .before .before .before .before .before .before .before .before .before .before .before .before .standard-form3 .ensures) in
-    let g₀ = going (p .0) (p .1) in
-    let g₁ = going-on g₀ e₁ (c .before .before .before .before .before .before .before .before .before .before .before .before .before .before .before .before .before .before .before .before .before .before .before .before .before .before .before .before .before .before .before .before .before .before .before .before .before .before .before .before .before .before .before .before .before .before .before .before .before .before .before .before .before .before .before .text-of-tokens .ensures) in
-    let g₂ = going-on g₁ e₂ (c .before .before .before .before .before .before .before .before .before .before .before .before .before .before .before .before .before .before .before .before .before .before .before .before .before .before .before .before .before .before .before .before .before .before .before .before .before .before .before .before .before .before .before .before .before .before .before .text-of-tokens2 .ensures) in
-    let g₃ = going-on g₂ e₃ (c .before .before .before .before .before .before .before .before .before .before .before .before .before .before .before .before .before .before .before .before .before .before .before .before .before .before .before .before .before .before .before .before .before .before .before .before .before .before .before .text-of-tokens3 .ensures) in
-    let g₄ = going-on g₃ e₄ (c .before .before .before .before .before .before .before .before .before .before .before .before .before .before .before .before .before .before .before .before .before .before .before .before .before .before .before .before .before .before .before .text-of-tokens4 .ensures) in
-    let g₅ = going-on g₄ e₅ (c .before .before .before .before .before .before .before .before .before .before .before .before .before .before .before .before .before .before .before .before .before .before .before .text-of-tokens5 .ensures) in
-    let g₆ = going-on g₅ e₆ (c .before .before .before .before .before .before .before .before .before .before .before .before .before .before .before .text-of-tokens6 .ensures) in
-    let l₁ = going-length g₀ e₁ (c .before .before .before .before .before .before .before .before .before .before .before .before .before .before .before .before .before .before .before .before .before .before .before .before .before .before .before .before .before .before .before .before .before .before .before .before .before .before .before .before .before .before .before .before .before .before .before .before .before .before .before .before .before .before .before .text-of-tokens .ensures) (c .before .before .before .before .before .between .ensures) in
-    let l₂ = going-length g₁ e₂ (c .before .before .before .before .before .before .before .before .before .before .before .before .before .before .before .before .before .before .before .before .before .before .before .before .before .before .before .before .before .before .before .before .before .before .before .before .before .before .before .before .before .before .before .before .before .before .before .text-of-tokens2 .ensures) (c .before .before .before .before .between2 .ensures) in
-    let l₃ = going-length g₂ e₃ (c .before .before .before .before .before .before .before .before .before .before .before .before .before .before .before .before .before .before .before .before .before .before .before .before .before .before .before .before .before .before .before .before .before .before .before .before .before .before .before .text-of-tokens3 .ensures) (c .before .before .before .between3 .ensures) in
-    let l₄ = going-length g₃ e₄ (c .before .before .before .before .before .before .before .before .before .before .before .before .before .before .before .before .before .before .before .before .before .before .before .before .before .before .before .before .before .before .before .text-of-tokens4 .ensures) (c .before .before .between4 .ensures) in
-    let l₅ = going-length g₄ e₅ (c .before .before .before .before .before .before .before .before .before .before .before .before .before .before .before .before .before .before .before .before .before .before .before .text-of-tokens5 .ensures) (c .before .between5 .ensures) in
-    let l₆ = going-length g₅ e₆ (c .before .before .before .before .before .before .before .before .before .before .before .before .before .before .before .text-of-tokens6 .ensures) (c .between6 .ensures) in
-    record { each = rw (l₁, l₂, l₃, l₄, l₅, l₆) refl; bytes = six (p .0) (p .1) (then e₁ (c .before .before .before .before .before .before .before .before .before .before .before .before .before .before .before .before .before .before .before .before .before .before .before .before .before .before .before .before .before .before .before .before .before .before .before .before .before .before .before .before .before .before .before .before .before .before .before .before .before .before .before .before .before .before .before .text-of-tokens .ensures) (then e₂ (c .before .before .before .before .before .before .before .before .before .before .before .before .before .before .before .before .before .before .before .before .before .before .before .before .before .before .before .before .before .before .before .before .before .before .before .before .before .before .before .before .before .before .before .before .before .before .before .text-of-tokens2 .ensures) (then e₃ (c .before .before .before .before .before .before .before .before .before .before .before .before .before .before .before .before .before .before .before .before .before .before .before .before .before .before .before .before .before .before .before .before .before .before .before .before .before .before .before .text-of-tokens3 .ensures) (then e₄ (c .before .before .before .before .before .before .before .before .before .before .before .before .before .before .before .before .before .before .before .before .before .before .before .before .before .before .before .before .before .before .before .text-of-tokens4 .ensures) (then e₅ (c .before .before .before .before .before .before .before .before .before .before .before .before .before .before .before .before .before .before .before .before .before .before .before .text-of-tokens5 .ensures) (then e₆ (c .before .before .before .before .before .before .before .before .before .before .before .before .before .before .before .text-of-tokens6 .ensures) (ended (g₆ .ready .few)))))))) (c .before .before .before .before .before .before .before .before .put-buffer .ensures) }
+returns : tie.Need-returns Inv-loop μ-loop
+returns c = let i = c .before .before .before .before .before .before .loop .inv in going-ends (c .before .before .before .before .before .before .before .before .before .before .before .before .pre .0) (i .0) (c .before .before .before .before .before .loop-test .left) (i .1) (c .before .before .put-buffer .ensures)
 
 pub put-six-spec : {M : Type 1} → statement M
 put-six-spec =
     tie.close
     (tie.spec
-    sn-form-requires
+    Inv-loop
+    μ-loop
+    loop-holds
+    pass-form-requires
     text-of-tokens-requires
-    sn-form-requires-2
-    text-of-tokens-requires-2
-    sn-form-requires-3
-    text-of-tokens-requires-3
-    standard-form-requires
-    text-of-tokens-requires-4
-    standard-form-requires-2
-    text-of-tokens-requires-5
-    standard-form-requires-3
-    text-of-tokens-requires-6
-    put-buffer-requires
     between-requires
-    between-requires-2
-    between-requires-3
-    between-requires-4
-    between-requires-5
-    between-requires-6
+    mul-lengths
+    array-write-lengths
+    add-i
+    loop-less
+    loop-again
+    put-buffer-requires
     same-length
     same-length-2
     returns)
