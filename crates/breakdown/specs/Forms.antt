@@ -19,11 +19,14 @@ use Rattle.text_buffer.specs.Runs.{runToken}
 use Rattle.breakdown.specs.declared.form.Form.{Form}
 use Rattle.text_buffer.specs.declared.run.Run.{Run}
 
+abbrev pub formWith : Bool → ℕ → Bool → Form
+formWith s k b = record { sn = s; limit = k; signs = b }
+
 abbrev pub snForm : ℕ → Form
-snForm k = record { sn = true; limit = k; signs = false }
+snForm k = formWith true k false
 
 abbrev pub standardForm : ℕ → Bool → Form
-standardForm k b = record { sn = false; limit = k; signs = b }
+standardForm k b = formWith false k b
 
 -- the form of each kind; Total is not made of tokens
 abbrev pub formOf : Kind → Form

@@ -21,9 +21,9 @@ ghost use lib.ListN.{length, take};
 ghost use Rattle.number.specs.Place.{Room, Wrote};
 ghost use Rattle.rules.specs.Chart.{classes, runs};
 ghost use Rattle.measures.specs.Scan.{paired};
-ghost use Rattle.text_buffer.specs.Buffer.{Added, Grown, Ready};
+ghost use Rattle.text_buffer.specs.Buffer.{Added, Grown, Ready, goesOn};
 ghost use Rattle.text_buffer.specs.Parts.{Tokens, TokensBehind, PartRoom, PartWritten};
-ghost use Rattle.breakdown.specs.Forms.{textOf, openText, partText, Open, OpenNext, FirstRun, ActiveMeasures};
+ghost use Rattle.breakdown.specs.Forms.{formWith, textOf, openText, partText, Open, OpenNext, FirstRun, ActiveMeasures};
 ghost use Rattle.text_buffer.specs.Runs.{runText};
 
 // One part of a text, of the form that sn, limit and signs say; the run or piece that is open behind it is answered. The form and the place are passed
@@ -42,8 +42,8 @@ fn text_part(
     place: usize,
     left: usize,
 ) -> Done
-    requires { ⌜ TokensBehind (run .class) (now cs) (now ns) × Open (record { sn = sn; limit = limit; signs = signs }) run × (run .length ≤ 2 ^ 62) × Ready (now buf) left (now words) × PartRoom (partText (record { sn = sn; limit = limit; signs = signs }) run (now cs) (now ns)) (now buf) (now out) (record { place = place; left = left }) ⌝ }
-    ensures { λ r. ⌜ PartWritten (partText (record { sn = sn; limit = limit; signs = signs }) run (now (cs .entry)) (now (ns .entry))) (openText (record { sn = sn; limit = limit; signs = signs }) (r .run)) (now (buf .entry)) (now (out .entry)) (record { place = place; left = left }) (now (buf .exit)) (now (out .exit)) (r .to) × OpenNext (record { sn = sn; limit = limit; signs = signs }) run (length (now (cs .entry))) (r .run) ⌝ }
+    requires { ⌜ TokensBehind (run .class) (now cs) (now ns) × Open (formWith sn limit signs) run × (run .length ≤ 2 ^ 62) × Ready (now buf) left (now words) × PartRoom (partText (formWith sn limit signs) run (now cs) (now ns)) (now buf) (now out) (goesOn place left) ⌝ }
+    ensures { λ r. ⌜ PartWritten (partText (formWith sn limit signs) run (now (cs .entry)) (now (ns .entry))) (openText (formWith sn limit signs) (r .run)) (now (buf .entry)) (now (out .entry)) (goesOn place left) (now (buf .exit)) (now (out .exit)) (r .to) × OpenNext (formWith sn limit signs) run (length (now (cs .entry))) (r .run) ⌝ }
 {
     let from = Left { place, left };
     if sn {
@@ -161,7 +161,7 @@ fn measures_text(
     at: usize,
 ) -> Left
     requires { ⌜ ActiveMeasures (now m) × Ready (now buf) 0 (now words) × Room (now out) at (textOf form (runs (classes (now m)))) ⌝ }
-    ensures { λ r. ⌜ Added (now (buf .entry)) (now (out .entry)) (record { place = at; left = 0 }) (textOf form (runs (classes (now (m .entry))))) (now (buf .exit)) (now (out .exit)) r ⌝ }
+    ensures { λ r. ⌜ Added (now (buf .entry)) (now (out .entry)) (goesOn at 0) (textOf form (runs (classes (now (m .entry))))) (now (buf .exit)) (now (out .exit)) r ⌝ }
 {
     if m.len() == 0 {
         return Left {

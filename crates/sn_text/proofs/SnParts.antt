@@ -21,7 +21,7 @@ use Rattle.rules.specs.Reduced.{Item, run, item, signOf, joins, joinFrom, short
 use Rattle.rules.specs.Texts.{word, strung}
 use Rattle.rules.proofs.Steps.{drop-run, simple-run, short-long}
 use Rattle.measures.specs.Scan.{paired}
-use Rattle.text_buffer.specs.Buffer.{Added, Grown}
+use Rattle.text_buffer.specs.Buffer.{Added, Grown, goesOn}
 use Rattle.text_buffer.specs.Put.{Measured}
 use Rattle.text_buffer.specs.Behind.{Behind, firstClass}
 use Rattle.sn_text.specs.Sn.{breakItem, breakTokens, shown}
@@ -31,7 +31,7 @@ use Rattle.text_buffer.specs.Words.{side}
 use Rattle.text_buffer.proofs.Bytes.{sign-one}
 use Rattle.text_buffer.proofs.Reading.{none-left, slices-next, run-behind}
 use Rattle.sn_text.proofs.Groups.{drop-append, after-run, after-join, after-apart, break-tokens, one-shows, short-shows, long-shows}
-use Rattle.text_buffer.proofs.Added.{goesOn, added-none, added-room, added, grown-room, grown-added, step-room, step}
+use Rattle.text_buffer.proofs.Added.{added-none, added-room, added, grown-room, grown-added, step-room, step}
 use Rattle.text_buffer.specs.declared.buffer.Left.{Left}
 
 -- ---- signs and sides

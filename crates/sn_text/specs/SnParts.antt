@@ -1,6 +1,6 @@
 -- SN texts of tokens, and what the functions that write or measure a part of one promise each other.
 -- Assumes nothing.
-use Prim.Native.Nat.{ℕ, _+_, _*_, _≤_, _<_}
+use Prim.Native.Nat.{ℕ, _+_, _*_, _^_, _≤_, _<_}
 use mathlib.Core.Path.{_≡_}
 use mathlib.Core.Bool.{false, cond, _&&_}
 use mathlib.Core.Logic.{_≢_}
@@ -13,7 +13,14 @@ use Rattle.rules.specs.Reduced.{Item, item}
 use Rattle.rules.specs.Texts.{word, strung}
 use Rattle.measures.specs.Scan.{paired}
 use Rattle.text_buffer.specs.Behind.{Behind}
+use Rattle.text_buffer.specs.Buffer.{Ready}
+use Rattle.text_buffer.specs.Parts.{PartMeasured, PartRoom, PartWritten, TokensBehind}
+use Rattle.text_buffer.specs.Runs.{runToken}
 use Rattle.text_buffer.specs.Words.{side}
+use Rattle.text_buffer.specs.declared.buffer.Left.{Left}
+use Rattle.text_buffer.specs.declared.run.Done.{Done}
+use Rattle.text_buffer.specs.declared.run.Run.{Run}
+use Rattle.text_buffer.specs.declared.run.Tally.{Tally}
 use Rattle.sn_text.specs.Sn.{breakItem, breakTokens, shown, snAt}
 
 -- items parted by one space
@@ -37,6 +44,23 @@ snOn k t more = snOf k (t ∷ more)
 pub record OpenRun (t : Token) (cs : List ℕ) (u : Token) : Type 0 where
   pub run : class u ≢ 0
   pub small : len u ≤ len t + 4294967296 * length cs
+
+-- a part can be written: an open run, the tokens behind it, the table, a buffer that has room, and room for the text of all this
+pub record SnAsked (k : ℕ) (t : Run) (cs ns table buf out : List ℕ) (from : Left) : Type 0 where
+  pub tokens : TokensBehind (t .class) cs ns
+  pub short : t .length ≤ 2 ^ 62
+  pub ready : Ready buf (from .left) table
+  pub room : PartRoom (snPart k (runToken t) cs ns) buf out from
+
+-- it is written, but for the run that is open behind it
+abbrev pub SnWritten : ℕ → Run → List ℕ → List ℕ → List ℕ → List ℕ → Left → List ℕ → List ℕ → Done → Type 0
+SnWritten k t cs ns old out from buf new r =
+    PartWritten (snPart k (runToken t) cs ns) (snOn k (runToken (r .run))) old out from buf new (r .to) × OpenRun (runToken t) cs (runToken (r .run))
+
+-- .. or measured
+abbrev pub SnMeasured : ℕ → Run → List ℕ → List ℕ → Tally → Type 0
+SnMeasured k t cs ns r =
+    PartMeasured (snPart k (runToken t) cs ns) (snOn k (runToken (r .run))) (47 * length cs) (r .length) × OpenRun (runToken t) cs (runToken (r .run))
 
 -- reduced tokens as items, each with a space behind it
 abbrev pub ended : ℕ → List Token → List ℕ

@@ -12,7 +12,7 @@ use text_buffer::run::add_ended;
 use text_buffer::run::open_run;
 use text_buffer::run::run_length;
 use text_buffer::words::word_at;
-ghost use Prim.Native.Nat.{_*_, _+_, _^_, _≤_, _<_};
+ghost use Prim.Native.Nat.{_+_, _^_, _≤_, _<_};
 ghost use mathlib.Core.Path.{_≡_};
 ghost use mathlib.Core.Bool.{cond, false};
 ghost use mathlib.Core.Logic.{_≢_};
@@ -20,9 +20,9 @@ ghost use mathlib.Core.List.{[], _∷_};
 ghost use lib.ListN.{length, getD};
 ghost use Rattle.rules.specs.Chart.{token};
 ghost use Rattle.rules.specs.Reduced.{dropOnes};
-ghost use Rattle.text_buffer.specs.Buffer.{Grown, Ready};
-ghost use Rattle.sn_text.specs.SnParts.{OpenRun, snOn, snPart, RunAt, TokenAt, WithBreak, ended, joinClass, longBreak, SideLength};
-ghost use Rattle.text_buffer.specs.Parts.{PartMeasured, PartRoom, PartWritten, TokensBehind};
+ghost use Rattle.text_buffer.specs.Buffer.{Grown};
+ghost use Rattle.sn_text.specs.SnParts.{SnAsked, SnMeasured, SnWritten, RunAt, TokenAt, WithBreak, ended, joinClass, longBreak, SideLength};
+ghost use Rattle.text_buffer.specs.Parts.{TokensBehind};
 ghost use Rattle.text_buffer.specs.Put.{Measured};
 ghost use Rattle.text_buffer.specs.Runs.{runToken};
 ghost use Rattle.sn_text.specs.Sn.{breakTokens, shown};
@@ -126,8 +126,8 @@ fn joined_part(
     out: &mut [u8],
     from: Left,
 ) -> Done
-    requires { ⌜ (1 ≤ limit) × TokensBehind (run .class) (now cs) (now ns) × (run .length ≤ 2 ^ 62) × Ready (now buf) (from .left) (now words) × PartRoom (snPart limit (runToken run) (now cs) (now ns)) (now buf) (now out) from ⌝ }
-    ensures { λ r. ⌜ PartWritten (snPart limit (runToken run) (now (cs .entry)) (now (ns .entry))) (snOn limit (runToken (r .run))) (now (buf .entry)) (now (out .entry)) from (now (buf .exit)) (now (out .exit)) (r .to) × OpenRun (runToken run) (now (cs .entry)) (runToken (r .run)) ⌝ }
+    requires { ⌜ (1 ≤ limit) × SnAsked limit run (now cs) (now ns) (now words) (now buf) (now out) from ⌝ }
+    ensures { λ r. ⌜ SnWritten limit run (now (cs .entry)) (now (ns .entry)) (now (buf .entry)) (now (out .entry)) from (now (buf .exit)) (now (out .exit)) r ⌝ }
 {
     let mut last = run;
     let mut to = from;
@@ -165,8 +165,8 @@ fn dense_joined_part(
     out: &mut [u8],
     from: Left,
 ) -> Done
-    requires { ⌜ (1 ≤ limit) × TokensBehind (run .class) (now cs) (now ns) × (run .length ≤ 2 ^ 62) × Ready (now buf) (from .left) (now words) × PartRoom (snPart limit (runToken run) (now cs) (now ns)) (now buf) (now out) from ⌝ }
-    ensures { λ r. ⌜ PartWritten (snPart limit (runToken run) (now (cs .entry)) (now (ns .entry))) (snOn limit (runToken (r .run))) (now (buf .entry)) (now (out .entry)) from (now (buf .exit)) (now (out .exit)) (r .to) × OpenRun (runToken run) (now (cs .entry)) (runToken (r .run)) ⌝ }
+    requires { ⌜ (1 ≤ limit) × SnAsked limit run (now cs) (now ns) (now words) (now buf) (now out) from ⌝ }
+    ensures { λ r. ⌜ SnWritten limit run (now (cs .entry)) (now (ns .entry)) (now (buf .entry)) (now (out .entry)) from (now (buf .exit)) (now (out .exit)) r ⌝ }
 {
     let mut last = run;
     let mut to = from;
@@ -207,8 +207,8 @@ fn detailed_part(
     out: &mut [u8],
     from: Left,
 ) -> Done
-    requires { ⌜ TokensBehind (run .class) (now cs) (now ns) × Ready (now buf) (from .left) (now words) × PartRoom (snPart 0 (runToken run) (now cs) (now ns)) (now buf) (now out) from ⌝ }
-    ensures { λ r. ⌜ PartWritten (snPart 0 (runToken run) (now (cs .entry)) (now (ns .entry))) (snOn 0 (runToken (r .run))) (now (buf .entry)) (now (out .entry)) from (now (buf .exit)) (now (out .exit)) (r .to) × OpenRun (runToken run) (now (cs .entry)) (runToken (r .run)) ⌝ }
+    requires { ⌜ SnAsked 0 run (now cs) (now ns) (now words) (now buf) (now out) from ⌝ }
+    ensures { λ r. ⌜ SnWritten 0 run (now (cs .entry)) (now (ns .entry)) (now (buf .entry)) (now (out .entry)) from (now (buf .exit)) (now (out .exit)) r ⌝ }
 {
     if cs.len() == 0 {
         return Done { run, to: from };
@@ -240,8 +240,8 @@ pub fn sn_part(
     out: &mut [u8],
     from: Left,
 ) -> Done
-    requires { ⌜ TokensBehind (run .class) (now cs) (now ns) × (run .length ≤ 2 ^ 62) × Ready (now buf) (from .left) (now words) × PartRoom (snPart limit (runToken run) (now cs) (now ns)) (now buf) (now out) from ⌝ }
-    ensures { λ r. ⌜ PartWritten (snPart limit (runToken run) (now (cs .entry)) (now (ns .entry))) (snOn limit (runToken (r .run))) (now (buf .entry)) (now (out .entry)) from (now (buf .exit)) (now (out .exit)) (r .to) × OpenRun (runToken run) (now (cs .entry)) (runToken (r .run)) ⌝ }
+    requires { ⌜ SnAsked limit run (now cs) (now ns) (now words) (now buf) (now out) from ⌝ }
+    ensures { λ r. ⌜ SnWritten limit run (now (cs .entry)) (now (ns .entry)) (now (buf .entry)) (now (out .entry)) from (now (buf .exit)) (now (out .exit)) r ⌝ }
 {
     if limit == 0 {
         return detailed_part(cs, ns, run, words, buf, out, from);
@@ -291,7 +291,7 @@ fn token_length(class: u8, n: u32) -> usize
 // How long a part of a text is in which no runs join.
 fn detailed_part_length(cs: &[u8], ns: &[u32], run: Run) -> Tally
     requires { ⌜ TokensBehind (run .class) (now cs) (now ns) ⌝ }
-    ensures { λ r. ⌜ PartMeasured (snPart 0 (runToken run) (now (cs .entry)) (now (ns .entry))) (snOn 0 (runToken (r .run))) (47 * length (now (cs .entry))) (r .length) × OpenRun (runToken run) (now (cs .entry)) (runToken (r .run)) ⌝ }
+    ensures { λ r. ⌜ SnMeasured 0 run (now (cs .entry)) (now (ns .entry)) r ⌝ }
 {
     if cs.len() == 0 {
         return Tally { run, length: 0 };
@@ -312,7 +312,7 @@ fn detailed_part_length(cs: &[u8], ns: &[u32], run: Run) -> Tally
 // How long a part of a text is in which runs join: no branch hangs on the tokens but for numbers of 100 and more.
 fn joined_part_length(cs: &[u8], ns: &[u32], limit: u32, run: Run) -> Tally
     requires { ⌜ TokensBehind (run .class) (now cs) (now ns) × (run .length ≤ 2 ^ 62) ⌝ }
-    ensures { λ r. ⌜ PartMeasured (snPart limit (runToken run) (now (cs .entry)) (now (ns .entry))) (snOn limit (runToken (r .run))) (47 * length (now (cs .entry))) (r .length) × OpenRun (runToken run) (now (cs .entry)) (runToken (r .run)) ⌝ }
+    ensures { λ r. ⌜ SnMeasured limit run (now (cs .entry)) (now (ns .entry)) r ⌝ }
 {
     let mut last = run;
     let mut total: usize = 0;
@@ -343,7 +343,7 @@ fn joined_part_length(cs: &[u8], ns: &[u32], limit: u32, run: Run) -> Tally
 // How long a part of the SN text is.
 pub fn sn_part_length(cs: &[u8], ns: &[u32], limit: u32, run: Run) -> Tally
     requires { ⌜ TokensBehind (run .class) (now cs) (now ns) × (run .length ≤ 2 ^ 62) ⌝ }
-    ensures { λ r. ⌜ PartMeasured (snPart limit (runToken run) (now (cs .entry)) (now (ns .entry))) (snOn limit (runToken (r .run))) (47 * length (now (cs .entry))) (r .length) × OpenRun (runToken run) (now (cs .entry)) (runToken (r .run)) ⌝ }
+    ensures { λ r. ⌜ SnMeasured limit run (now (cs .entry)) (now (ns .entry)) r ⌝ }
 {
     if limit == 0 {
         return detailed_part_length(cs, ns, run);

@@ -20,12 +20,12 @@ use Rattle.rules.specs.Texts.{part, strung}
 use Rattle.measures.specs.Scan.{paired}
 use Rattle.text_buffer.specs.Put.{Measured}
 use Rattle.text_buffer.specs.Behind.{Behind}
-use Rattle.text_buffer.specs.Buffer.{Added, Grown}
+use Rattle.text_buffer.specs.Buffer.{Added, Grown, goesOn}
 use Rattle.standard_text.specs.Standard.{gapItem, standardFrom, standardPart}
 use Rattle.text_buffer.specs.Parts.{PartMeasured, PartRoom, PartWritten, TokensBehind}
 use Rattle.standard_text.specs.Filled.{doneText, doneTexts, Long, Standing, Filled}
 use Rattle.text_buffer.specs.declared.buffer.Left.{Left}
-use Rattle.text_buffer.proofs.Added.{goesOn, added-none, added-room, added, grown-added}
+use Rattle.text_buffer.proofs.Added.{added-none, added-room, added, grown-added}
 use Rattle.standard_text.proofs.Pieces.{after-run, after-over, after-apart, none-before}
 use Rattle.text_buffer.proofs.Reading.{none-left, slices-next}
 

@@ -23,10 +23,11 @@ ghost use Rattle.rules.specs.Reduced.{gap};
 ghost use Rattle.rules.specs.Texts.{part};
 ghost use Rattle.text_buffer.specs.Buffer.{Added, Grown, Ready};
 ghost use Rattle.standard_text.specs.Filled.{doneText, doneTexts};
-ghost use Rattle.text_buffer.specs.Parts.{PartMeasured, PartRoom, PartWritten, TokensBehind};
+ghost use Rattle.text_buffer.specs.Parts.{PartMeasured, TokensBehind};
 ghost use Rattle.standard_text.specs.Standard.{standardFrom, standardPart, gapItem};
 ghost use Rattle.text_buffer.specs.Put.{byteText, Measured};
 ghost use Rattle.text_buffer.specs.Words.{Words};
+ghost use Rattle.standard_text.specs.StandardParts.{StandardAsked, StandardWritten};
 
 // The piece that is open behind a part, and where the text goes on.
 pub struct StandardDone {
@@ -126,8 +127,8 @@ pub fn standard_part(
     out: &mut [u8],
     from: Left,
 ) -> StandardDone
-    requires { ⌜ TokensBehind 1 (now cs) (now ns) × (piece .length ≤ 2 ^ 62) × Ready (now buf) (from .left) (now words) × PartRoom (standardPart signs limit (piece .length) (piece .starred) (now cs) (now ns)) (now buf) (now out) from ⌝ }
-    ensures { λ r. ⌜ PartWritten (standardPart signs limit (piece .length) (piece .starred) (now (cs .entry)) (now (ns .entry))) (standardFrom signs limit (r .piece .length) (r .piece .starred)) (now (buf .entry)) (now (out .entry)) from (now (buf .exit)) (now (out .exit)) (r .to) × (r .piece .length ≤ piece .length + 4294967296 * length (now (cs .entry))) ⌝ }
+    requires { ⌜ StandardAsked signs limit piece (now cs) (now ns) (now words) (now buf) (now out) from ⌝ }
+    ensures { λ r. ⌜ StandardWritten signs limit piece (now (cs .entry)) (now (ns .entry)) (now (buf .entry)) (now (out .entry)) from (now (buf .exit)) (now (out .exit)) r ⌝ }
 {
     let mut open = piece;
     let mut to = from;
@@ -165,8 +166,8 @@ pub fn dense_part(
     out: &mut [u8],
     from: Left,
 ) -> StandardDone
-    requires { ⌜ TokensBehind 1 (now cs) (now ns) × (piece .length ≤ 2 ^ 62) × Ready (now buf) (from .left) (now words) × PartRoom (standardPart signs limit (piece .length) (piece .starred) (now cs) (now ns)) (now buf) (now out) from ⌝ }
-    ensures { λ r. ⌜ PartWritten (standardPart signs limit (piece .length) (piece .starred) (now (cs .entry)) (now (ns .entry))) (standardFrom signs limit (r .piece .length) (r .piece .starred)) (now (buf .entry)) (now (out .entry)) from (now (buf .exit)) (now (out .exit)) (r .to) × (r .piece .length ≤ piece .length + 4294967296 * length (now (cs .entry))) ⌝ }
+    requires { ⌜ StandardAsked signs limit piece (now cs) (now ns) (now words) (now buf) (now out) from ⌝ }
+    ensures { λ r. ⌜ StandardWritten signs limit piece (now (cs .entry)) (now (ns .entry)) (now (buf .entry)) (now (out .entry)) from (now (buf .exit)) (now (out .exit)) r ⌝ }
 {
     let mut lengths = [0u64; 16];
     let mut stars = [false; 16];

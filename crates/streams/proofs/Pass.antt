@@ -27,14 +27,14 @@ use Rattle.measures.specs.Scan.{InSlices, paired}
 use Rattle.measures.proofs.Part.{part-runs}
 use Rattle.measures.proofs.Counted.{tokens-few}
 use Rattle.measures.proofs.Written.{withinC, withinN, back}
-use Rattle.text_buffer.specs.Buffer.{Added, Ready}
+use Rattle.text_buffer.specs.Buffer.{Added, Ready, goesOn}
 use Rattle.text_buffer.specs.Parts.{Tokens}
 use Rattle.breakdown.specs.Forms.{formOf, isTotal, textOf}
 use Rattle.breakdown.specs.Lengths.{DueOf}
 use Rattle.text_buffer.specs.declared.buffer.Left.{Left}
 use Rattle.breakdown.specs.declared.form.Form.{Form}
 use Rattle.breakdown.specs.declared.length.Due.{Due}
-use Rattle.text_buffer.proofs.Added.{goesOn, added-none, added-room, added, added-ready, added-next, added-ends}
+use Rattle.text_buffer.proofs.Added.{added-none, added-room, added, added-ready, added-next, added-ends}
 use Rattle.breakdown.proofs.Measures.{paired-length}
 use Rattle.breakdown.proofs.Modes.{part-tokens, tokens-of, form-text}
 use Rattle.streams.specs.Promises.{passNo, Outputs}

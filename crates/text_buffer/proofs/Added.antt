@@ -8,11 +8,8 @@ use lib.ListN.{length, take, length-append}
 use lib.Seq.{length-take-le}
 use Rattle.number.specs.Place.{Room, Wrote}
 use Rattle.number.proofs.Place.{still, room-first, room-next, wrote, wrote-length}
-use Rattle.text_buffer.specs.Buffer.{Added, Grown, Ready}
+use Rattle.text_buffer.specs.Buffer.{Added, Grown, Ready, goesOn}
 use Rattle.text_buffer.specs.declared.buffer.Left.{Left}
-
-abbrev pub goesOn : ℕ → ℕ → Left
-goesOn place left = record { place = place; left = left }
 
 pub added-none : {buf out : List ℕ} {from : Left} → from .left ≤ 448 → Added buf out from [] buf out from
 added-none {buf} {out} {from} h = record { front = []; wrote = still; all = sym (append-nil (take (from .left) buf)); long = refl; few = h }

@@ -20,6 +20,10 @@ pub record Ready (buf : List ℕ) (left : ℕ) (table : List ℕ) : Type 0 where
   pub few : left ≤ 448
   pub words : Words table
 
+-- where a text goes on: a place of the slice, and so many bytes in the buffer
+abbrev pub goesOn : ℕ → ℕ → Left
+goesOn place left = record { place = place; left = left }
+
 -- the text xs behind what stood in the buffer `old`: the first of all that is written in the slice, and the rest stands in the buffer
 pub record Added (old : List ℕ) (out : List ℕ) (from : Left) (xs : List ℕ) (buf : List ℕ) (new : List ℕ) (to : Left) : Type 0 where
   pub front : List ℕ

@@ -9,7 +9,7 @@ ghost use Rattle.number.specs.Digits.{digits};
 ghost use Rattle.number.specs.Place.{Room, Wrote};
 ghost use Rattle.number.specs.Pushed.{DigitCount};
 ghost use Rattle.text_buffer.specs.Put.{byteText};
-ghost use Rattle.text_buffer.specs.Buffer.{Added, Grown};
+ghost use Rattle.text_buffer.specs.Buffer.{Added, Grown, goesOn};
 ghost use Rattle.text_buffer.specs.Words.{Words, wordText};
 
 // The byte `b`, or nothing if it is 0.
@@ -85,7 +85,7 @@ pub struct Left {
 // The buffer is written once there may be no room in it for one more group or piece.
 pub fn flush(buf: &[u8], out: &mut [u8], place: usize, left: usize) -> Left
     requires { ⌜ (left ≤ length (now buf)) × Room (now out) place (take left (now buf)) ⌝ }
-    ensures { λ r. ⌜ Added (now (buf .entry)) (now (out .entry)) (record { place = place; left = left }) [] (now (buf .entry)) (now (out .exit)) r ⌝ }
+    ensures { λ r. ⌜ Added (now (buf .entry)) (now (out .entry)) (goesOn place left) [] (now (buf .entry)) (now (out .exit)) r ⌝ }
 {
     if left > 448 {
         return Left {

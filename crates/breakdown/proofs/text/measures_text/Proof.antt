@@ -8,8 +8,9 @@ use lib.ListN.{length, drop}
 use lib.Seq.{length-take-le}
 use Rattle.rules.specs.Chart.{classes, runs}
 use Rattle.breakdown.specs.Forms.{textOf, openText}
+use Rattle.text_buffer.specs.Buffer.{goesOn}
 use Rattle.text_buffer.proofs.Added as Text
-use Rattle.text_buffer.proofs.Added.{goesOn, added-out, grown-only}
+use Rattle.text_buffer.proofs.Added.{added-out, grown-only}
 use Rattle.breakdown.proofs.PartByPart.{Along, no-measures, none-short, rest, first-class, first-along, first-text, ahead, part-tokens, on, on-text, next-within, as-long, most, at-end}
 use Rattle.breakdown.proofs.text.measures_text.Statement.{statement}
 use Rattle.breakdown.proofs.text.measures_text.Tie as tie

@@ -4,6 +4,7 @@ use mathlib.Core.Path.{sym, _∙_}
 use mathlib.Core.Bool.{true≢false}
 use mathlib.Core.Logic.{⊎-elim}
 use borrow.Author.Needs.{needs}
+use Rattle.breakdown.specs.Forms.{formWith}
 use Rattle.text_buffer.proofs.Added.{added-out}
 use Rattle.breakdown.proofs.PartByPart.{piece-part}
 use Rattle.breakdown.proofs.text.text_part.Statement.{statement}
@@ -12,7 +13,7 @@ use Rattle.breakdown.proofs.text.text_part.Tie as tie
 sn-part-requires : tie.Need-sn-part-requires
 sn-part-requires c κs =
     let p = c .before .before .before .before .before .before .before .pre in
-    (p .0, p .2, p .3, record { more = p .4 .more; room = rw (c .before .before .if1 .taken) at (p .4 .room) })
+    record { tokens = p .0; short = p .2; ready = p .3; room = record { more = p .4 .more; room = rw (c .before .before .if1 .taken) at (p .4 .room) } }
 
 same-length : tie.Need-same-length
 same-length c = search needs
@@ -32,21 +33,21 @@ dense-part-requires : tie.Need-dense-part-requires
 dense-part-requires c κs =
     let p = c .before .before .before .before .before .before .before .before .pre in
     let e = c .before .before .before .if1 .left in
-    (rw (p .1 .piece e) at (p .0), p .2, p .3, record { more = p .4 .more; room = rw e at (p .4 .room) })
+    record { tokens = rw (p .1 .piece e) at (p .0); short = p .2; ready = p .3; room = record { more = p .4 .more; room = rw e at (p .4 .room) } }
 
 standard-part-requires : tie.Need-standard-part-requires
 standard-part-requires c κs =
     let p = c .before .before .before .before .before .before .before .before .pre in
     let e = c .before .before .before .if1 .left in
-    (rw (p .1 .piece e) at (p .0), p .2, p .3, record { more = p .4 .more; room = rw e at (p .4 .room) })
+    record { tokens = rw (p .1 .piece e) at (p .0); short = p .2; ready = p .3; room = record { more = p .4 .more; room = rw e at (p .4 .room) } }
 
 written : tie.Need-returns-2
 written c =
     let s = c .before .before .before .before .before .before .before .before .args in
     let e = c .before .before .before .if1 .left in
     ⊎-elim
-    (λ w. rw (w .8, w .9, w .10) (piece-part (record { sn = s .sn; limit = s .limit; signs = s .signs }) (s .run) (s .cs .now) (s .ns .now) e (w .3 .result .piece) (w .3 .ensures)))
-    (λ w. rw (w .8, w .9, w .10) (piece-part (record { sn = s .sn; limit = s .limit; signs = s .signs }) (s .run) (s .cs .now) (s .ns .now) e (w .3 .result .piece) (w .3 .ensures)))
+    (λ w. rw (w .8, w .9, w .10) (piece-part (formWith (s .sn) (s .limit) (s .signs)) (s .run) (s .cs .now) (s .ns .now) e (w .3 .result .piece) (w .3 .ensures)))
+    (λ w. rw (w .8, w .9, w .10) (piece-part (formWith (s .sn) (s .limit) (s .signs)) (s .run) (s .cs .now) (s .ns .now) e (w .3 .result .piece) (w .3 .ensures)))
     (c .before .before .if2 .came)
 
 same-length-3 : tie.Need-same-length-3

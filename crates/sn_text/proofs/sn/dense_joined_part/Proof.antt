@@ -19,10 +19,10 @@ abbrev μ-loop : tie.MeasureT-loop
 μ-loop cs ns limit words buf₀ out₀ last₀ to₀ i₀ buf out last to i = length cs - i
 
 loop-holds : tie.Need-loop-holds Inv-loop μ-loop
-loop-holds c = let p = c .before .before .before .before .pre in writing-starts _ _ _ _ _ (p .1) (p .3 .few)
+loop-holds c = let p = c .before .before .before .before .pre in writing-starts _ _ _ _ _ (p .1 .tokens) (p .1 .ready .few)
 
 next-run-requires : tie.Need-next-run-requires Inv-loop μ-loop
-next-run-requires c κs = opened-at (c .before .loop .inv .opened) (c .before .before .before .before .before .before .pre .1 .long) (c .loop-test .taken)
+next-run-requires c κs = opened-at (c .before .loop .inv .opened) (c .before .before .before .before .before .before .pre .1 .tokens .long) (c .loop-test .taken)
 
 join-class-requires : tie.Need-join-class-requires Inv-loop μ-loop
 join-class-requires c κs = search needs
@@ -40,22 +40,22 @@ add-last-2 : tie.Need-add-last-2 Inv-loop μ-loop
 add-last-2 c =
     let o = c .before .before .before .before .before .before .before .before .loop .inv .opened in
     let p = c .before .before .before .before .before .before .before .before .before .before .before .before .before .pre in
-    omega (arith, o .small, o .within, p .1 .few, p .2)
+    omega (arith, o .small, o .within, p .1 .tokens .few, p .1 .short)
 
 add-group-requires : tie.Need-add-group-requires Inv-loop μ-loop
 add-group-requires c κs =
     let w = c .before .before .before .before .before .before .loop .inv in
     let o = w .opened in
     let p = c .before .before .before .before .before .before .before .before .before .before .before .pre in
-    (omega (arith, w .wrote .long, w .wrote .few, p .3 .long), p .3 .words, p .0, o .run, omega (arith, o .small, o .within, p .1 .few, p .2))
+    (omega (arith, w .wrote .long, w .wrote .few, p .1 .ready .long), p .1 .ready .words, p .0, o .run, omega (arith, o .small, o .within, p .1 .tokens .few, p .1 .short))
 
 flush-requires : tie.Need-flush-requires Inv-loop μ-loop
 flush-requires c κs =
     let w = c .before .before .before .before .before .before .before .before .before .before .before .loop .inv in
     let p = c .before .before .before .before .before .before .before .before .before .before .before .before .before .before .before .before .pre in
     let g = c .before .before .before .before .add-group .ensures in (
-      within _ (omega (arith, w .wrote .long, w .wrote .few, p .3 .long)) g,
-      writing-room w (c .before .before .before .before .before .before .before .before .before .next-run .ensures) (λ e. c .before .before .before .before .before .before .if1 .left (e ∙ sym (c .before .before .before .before .before .before .before .before .join-class .ensures))) (omega arith) g (p .4),
+      within _ (omega (arith, w .wrote .long, w .wrote .few, p .1 .ready .long)) g,
+      writing-room w (c .before .before .before .before .before .before .before .before .before .next-run .ensures) (λ e. c .before .before .before .before .before .before .if1 .left (e ∙ sym (c .before .before .before .before .before .before .before .before .join-class .ensures))) (omega arith) g (p .1 .room),
     )
 
 open-run-requires : tie.Need-open-run-requires Inv-loop μ-loop

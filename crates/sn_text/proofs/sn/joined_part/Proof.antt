@@ -19,16 +19,16 @@ abbrev μ-loop : tie.MeasureT-loop
 μ-loop cs ns limit words buf₀ out₀ last₀ to₀ i₀ buf out last to i = length cs - i
 
 loop-holds : tie.Need-loop-holds Inv-loop μ-loop
-loop-holds c = let p = c .before .before .before .before .pre in writing-starts _ _ _ _ _ (p .1) (p .3 .few)
+loop-holds c = let p = c .before .before .before .before .pre in writing-starts _ _ _ _ _ (p .1 .tokens) (p .1 .ready .few)
 
 run-place-requires : tie.Need-run-place-requires Inv-loop μ-loop
-run-place-requires c κs = opened-at (c .before .loop .inv .opened) (c .before .before .before .before .before .before .pre .1 .long) (c .loop-test .taken)
+run-place-requires c κs = opened-at (c .before .loop .inv .opened) (c .before .before .before .before .before .before .pre .1 .tokens .long) (c .loop-test .taken)
 
 add-next : tie.Need-add-next Inv-loop μ-loop
 add-next c = let a = c .run-place .ensures in omega (arith, a .within)
 
 add-ended-requires : tie.Need-add-ended-requires Inv-loop μ-loop
-add-ended-requires c κs = let w = c .before .before .before .before .loop .inv .wrote in let p = c .before .before .before .before .before .before .before .before .before .pre .3 in (omega (arith, w .long, w .few, p .long), p .words)
+add-ended-requires c κs = let w = c .before .before .before .before .loop .inv .wrote in let p = c .before .before .before .before .before .before .before .before .before .pre .1 .ready in (omega (arith, w .long, w .few, p .long), p .words)
 
 flush-requires : tie.Need-flush-requires Inv-loop μ-loop
 flush-requires c κs =
@@ -37,16 +37,16 @@ flush-requires c κs =
     let a = c .before .before .before .before .before .before .before .run-place .ensures in
     let z = no-break a (omega (arith, c .before .before .before .before .before .before .if1 .taken)) in
     let g = rw (adjacent-text (c .before .before .before .before .before .before .before .before .before .before .before .before .before .before .args .limit) _ _ _ _ (w .opened .run) z) at (c .before .before .before .before .add-ended .ensures) in
-    (within _ (omega (arith, w .wrote .long, w .wrote .few, p .3 .long)) g, writing-room w a (adjacent _ _ a z) (omega (arith, c .before .before .before .before .before .before .before .before .before .before .before .before .shared-slice-known2 .given (c .before .before .before .before .before .before .before .run-place .result .place))) g (p .4))
+    (within _ (omega (arith, w .wrote .long, w .wrote .few, p .1 .ready .long)) g, writing-room w a (adjacent _ _ a z) (omega (arith, c .before .before .before .before .before .before .before .before .before .before .before .before .shared-slice-known2 .given (c .before .before .before .before .before .before .before .run-place .result .place))) g (p .1 .room))
 
 shared-slice-read-open-run : tie.Need-shared-slice-read-open-run Inv-loop μ-loop
 shared-slice-read-open-run c = let a = c .before .before .before .before .before .before .before .before .before .before .before .run-place .ensures in omega (arith, a .within)
 
 mul-open-run : tie.Need-mul-open-run Inv-loop μ-loop
-mul-open-run c = let a = c .before .before .before .before .before .before .before .before .before .before .before .run-place .ensures in omega (arith, a .within, c .before .before .before .before .before .before .before .before .before .before .before .before .before .before .before .before .before .before .pre .1 .few)
+mul-open-run c = let a = c .before .before .before .before .before .before .before .before .before .before .before .run-place .ensures in omega (arith, a .within, c .before .before .before .before .before .before .before .before .before .before .before .before .before .before .before .before .before .before .pre .1 .tokens .few)
 
 shared-slice-read-open-run-2 : tie.Need-shared-slice-read-open-run-2 Inv-loop μ-loop
-shared-slice-read-open-run-2 c = let a = c .before .before .before .before .before .before .before .before .before .before .before .before .run-place .ensures in omega (arith, a .within, c .before .before .before .before .before .before .before .before .before .before .before .before .before .before .before .before .before .before .before .pre .1 .long)
+shared-slice-read-open-run-2 c = let a = c .before .before .before .before .before .before .before .before .before .before .before .before .run-place .ensures in omega (arith, a .within, c .before .before .before .before .before .before .before .before .before .before .before .before .before .before .before .before .before .before .before .pre .1 .tokens .long)
 
 open-run-requires : tie.Need-open-run-requires Inv-loop μ-loop
 open-run-requires c κs = search needs
@@ -61,10 +61,10 @@ cast-last : tie.Need-cast-last Inv-loop μ-loop
 cast-last c = search needs
 
 mul-last : tie.Need-mul-last Inv-loop μ-loop
-mul-last c = let a = c .before .before .before .before .before .run-place .ensures in omega (arith, a .within, c .before .before .before .before .before .before .before .before .before .before .before .before .pre .1 .few)
+mul-last c = let a = c .before .before .before .before .before .run-place .ensures in omega (arith, a .within, c .before .before .before .before .before .before .before .before .before .before .before .before .pre .1 .tokens .few)
 
 shared-slice-read-last : tie.Need-shared-slice-read-last Inv-loop μ-loop
-shared-slice-read-last c = let a = c .before .before .before .before .before .before .run-place .ensures in omega (arith, a .within, c .before .before .before .before .before .before .before .before .before .before .before .before .before .pre .1 .long)
+shared-slice-read-last c = let a = c .before .before .before .before .before .before .run-place .ensures in omega (arith, a .within, c .before .before .before .before .before .before .before .before .before .before .before .before .before .pre .1 .tokens .long)
 
 cast-last-2 : tie.Need-cast-last-2 Inv-loop μ-loop
 cast-last-2 c = omega (arith, c .shared-slice-known6 .given (c .before .before .before .before .before .before .run-place .result .place))
@@ -76,32 +76,32 @@ add-last-2 : tie.Need-add-last-2 Inv-loop μ-loop
 add-last-2 c =
     let o = c .before .before .before .before .before .before .before .before .before .loop .inv .opened in
     let p = c .before .before .before .before .before .before .before .before .before .before .before .before .before .before .pre in
-    omega (arith, o .small, o .within, p .1 .few, p .2, c .before .shared-slice-known6 .given (c .before .before .before .before .before .before .before .run-place .result .place))
+    omega (arith, o .small, o .within, p .1 .tokens .few, p .1 .short, c .before .shared-slice-known6 .given (c .before .before .before .before .before .before .before .run-place .result .place))
 
 add-group-requires : tie.Need-add-group-requires Inv-loop μ-loop
 add-group-requires c κs =
     let w = c .before .before .before .before .before .before .before .loop .inv in
     let o = w .opened in
     let p = c .before .before .before .before .before .before .before .before .before .before .before .before .pre in
-    (omega (arith, w .wrote .long, w .wrote .few, p .3 .long), p .3 .words, p .0, o .run, omega (arith, o .small, o .within, p .1 .few, p .2))
+    (omega (arith, w .wrote .long, w .wrote .few, p .1 .ready .long), p .1 .ready .words, p .0, o .run, omega (arith, o .small, o .within, p .1 .tokens .few, p .1 .short))
 
 flush-requires-2 : tie.Need-flush-requires-2 Inv-loop μ-loop
 flush-requires-2 c κs =
     let w = c .before .before .before .before .before .before .before .before .before .before .before .before .loop .inv in
     let p = c .before .before .before .before .before .before .before .before .before .before .before .before .before .before .before .before .before .pre in
     let g = c .before .before .before .before .add-group .ensures in (
-      within _ (omega (arith, w .wrote .long, w .wrote .few, p .3 .long)) g,
-      writing-room w (c .before .before .before .before .before .before .before .before .before .before .run-place .ensures) (λ e. c .before .before .before .before .before .before .if2 .left (e ∙ sym (c .before .before .before .before .before .before .before .join-class .ensures))) (omega (arith, c .before .before .before .before .before .before .before .before .before .before .before .before .before .before .before .shared-slice-known2 .given (c .before .before .before .before .before .before .before .before .before .before .run-place .result .place))) g (p .4),
+      within _ (omega (arith, w .wrote .long, w .wrote .few, p .1 .ready .long)) g,
+      writing-room w (c .before .before .before .before .before .before .before .before .before .before .run-place .ensures) (λ e. c .before .before .before .before .before .before .if2 .left (e ∙ sym (c .before .before .before .before .before .before .before .join-class .ensures))) (omega (arith, c .before .before .before .before .before .before .before .before .before .before .before .before .before .before .before .shared-slice-known2 .given (c .before .before .before .before .before .before .before .before .before .before .run-place .result .place))) g (p .1 .room),
     )
 
 shared-slice-read-open-run-3 : tie.Need-shared-slice-read-open-run-3 Inv-loop μ-loop
 shared-slice-read-open-run-3 c = let a = c .before .before .before .before .before .before .before .before .before .before .before .before .before .before .run-place .ensures in omega (arith, a .within)
 
 mul-open-run-2 : tie.Need-mul-open-run-2 Inv-loop μ-loop
-mul-open-run-2 c = let a = c .before .before .before .before .before .before .before .before .before .before .before .before .before .before .run-place .ensures in omega (arith, a .within, c .before .before .before .before .before .before .before .before .before .before .before .before .before .before .before .before .before .before .before .before .before .pre .1 .few)
+mul-open-run-2 c = let a = c .before .before .before .before .before .before .before .before .before .before .before .before .before .before .run-place .ensures in omega (arith, a .within, c .before .before .before .before .before .before .before .before .before .before .before .before .before .before .before .before .before .before .before .before .before .pre .1 .tokens .few)
 
 shared-slice-read-open-run-4 : tie.Need-shared-slice-read-open-run-4 Inv-loop μ-loop
-shared-slice-read-open-run-4 c = let a = c .before .before .before .before .before .before .before .before .before .before .before .before .before .before .before .run-place .ensures in omega (arith, a .within, c .before .before .before .before .before .before .before .before .before .before .before .before .before .before .before .before .before .before .before .before .before .before .pre .1 .long)
+shared-slice-read-open-run-4 c = let a = c .before .before .before .before .before .before .before .before .before .before .before .before .before .before .before .run-place .ensures in omega (arith, a .within, c .before .before .before .before .before .before .before .before .before .before .before .before .before .before .before .before .before .before .before .before .before .before .pre .1 .tokens .long)
 
 open-run-requires-2 : tie.Need-open-run-requires-2 Inv-loop μ-loop
 open-run-requires-2 c κs = search needs

@@ -5,7 +5,7 @@ use Rattle.sn_text.proofs.sn.sn_part.Statement.{statement}
 use Rattle.sn_text.proofs.sn.sn_part.Tie as tie
 
 detailed-part-requires : tie.Need-detailed-part-requires
-detailed-part-requires c κs = let p = c .before .before .before .before .before .before .before .pre in (p .0, p .2, rw (c .before .before .if1 .taken) at (p .3))
+detailed-part-requires c κs = let p = c .before .before .before .before .before .before .before .pre in record { tokens = p .tokens; short = p .short; ready = p .ready; room = rw (c .before .before .if1 .taken) at (p .room) }
 
 same-length : tie.Need-same-length
 same-length c = search needs

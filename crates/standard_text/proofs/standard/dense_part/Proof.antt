@@ -20,13 +20,13 @@ abbrev μ-loop : tie.MeasureT-loop
 loop-holds : tie.Need-loop-holds Inv-loop μ-loop
 loop-holds c =
     let p = c .before .before .before .before .pre in
-    (part-starts _ _ _ _ _ _ _ _ _ (p .0) (p .2 .few), record { lengths = refl; stars = refl; gaps = refl })
+    (part-starts _ _ _ _ _ _ _ _ _ (p .tokens) (p .ready .few), record { lengths = refl; stars = refl; gaps = refl })
 
 fill-requires : tie.Need-fill-requires Inv-loop μ-loop
 fill-requires c κs =
     let s = c .before .before .before .before in
     let p = s .loop .inv .0 in
-    (p .standing, s .loop .inv .1, omega (arith, p .small, p .standing .within, p .standing .few, s .before .before .before .before .before .pre .1))
+    (p .standing, s .loop .inv .1, omega (arith, p .small, p .standing .within, p .standing .few, s .before .before .before .before .before .pre .short))
 
 put-pieces-requires : tie.Need-put-pieces-requires Inv-loop μ-loop
 put-pieces-requires c κs =
@@ -35,7 +35,7 @@ put-pieces-requires c κs =
     let i = s .loop .inv .0 in
     let p = s .before .before .before .before .before .pre in
     let a = i .written .wrote in
-    (f .2, record { long = omega (arith, a .long, p .2 .long); few = a .few; words = p .2 .words }, part-room _ _ _ _ _ _ _ _ _ i (filled-step _ (f .0)) (p .3))
+    (f .2, record { long = omega (arith, a .long, p .ready .long); few = a .few; words = p .ready .words }, part-room _ _ _ _ _ _ _ _ _ i (filled-step _ (f .0)) (p .room))
 
 loop-less : tie.Need-loop-less Inv-loop μ-loop
 loop-less c =

@@ -17,7 +17,7 @@ abbrev μ-loop : tie.MeasureT-loop
 μ-loop cs ns limit signs words buf₀ out₀ open₀ to₀ i₀ buf out «open» to i = List.length cs - i
 
 loop-holds : tie.Need-loop-holds Inv-loop μ-loop
-loop-holds c = let p = c .before .before .before .before .pre in part-starts _ _ _ _ _ _ _ _ _ (p .0) (p .2 .few)
+loop-holds c = let p = c .before .before .before .before .pre in part-starts _ _ _ _ _ _ _ _ _ (p .tokens) (p .ready .few)
 
 mul-n : tie.Need-mul-n Inv-loop μ-loop
 mul-n c = omega arith
@@ -38,7 +38,7 @@ add-open : tie.Need-add-open Inv-loop μ-loop
 add-open c =
     let l = c .before .before .before .before .before .loop in
     let i = l .inv in
-    omega (arith, c .before .before .before .shared-slice-known3 .given (l .i), i .small, i .standing .within, i .standing .few, c .before .before .before .before .before .before .before .before .before .before .pre .1)
+    omega (arith, c .before .before .before .shared-slice-known3 .given (l .i), i .small, i .standing .within, i .standing .few, c .before .before .before .before .before .before .before .before .before .before .pre .short)
 
 cast-open-2 : tie.Need-cast-open-2 Inv-loop μ-loop
 cast-open-2 c = omega (arith, c .before .before .before .shared-slice-known3 .given (c .before .before .before .before .before .loop .i))
@@ -47,12 +47,12 @@ add-open-2 : tie.Need-add-open-2 Inv-loop μ-loop
 add-open-2 c =
     let l = c .before .before .before .before .before .before .loop in
     let i = l .inv in
-    omega (arith, c .before .before .before .before .shared-slice-known3 .given (l .i), i .small, i .standing .within, i .standing .few, c .before .before .before .before .before .before .before .before .before .before .before .pre .1)
+    omega (arith, c .before .before .before .before .shared-slice-known3 .given (l .i), i .small, i .standing .within, i .standing .few, c .before .before .before .before .before .before .before .before .before .before .before .pre .short)
 
 add-piece-requires : tie.Need-add-piece-requires Inv-loop μ-loop
 add-piece-requires c κs =
     let a = c .before .before .before .before .before .before .loop .inv .written .wrote in
-    let p = c .before .before .before .before .before .before .before .before .before .before .before .pre .2 in
+    let p = c .before .before .before .before .before .before .before .before .before .before .before .pre .ready in
     (omega (arith, a .long, a .few, p .long), p .words)
 
 flush-requires : tie.Need-flush-requires Inv-loop μ-loop
@@ -62,7 +62,7 @@ flush-requires c κs =
     let p = c .before .before .before .before .before .before .before .before .before .before .before .before .before .before .before .before .pre in
     let g = c .before .before .before .before .add-piece .ensures in
     let s = apart-step (i .standing) (c .before .before .before .before .before .before .before .before .before .before .loop-test .taken) _ _ _ _ (omega (arith, c .before .before .before .before .before .before .before .before .before .shared-slice-known3 .given (l .i))) (omega (arith, c .before .before .before .before .before .before .before .if1 .left)) (c .before .before .before .before .before .before .if2 .left) in
-    (within _ (omega (arith, i .written .wrote .long, i .written .wrote .few, p .2 .long)) g, rw (g .front) (part-room _ _ _ _ _ _ _ _ _ i s (p .3)))
+    (within _ (omega (arith, i .written .wrote .long, i .written .wrote .few, p .ready .long)) g, rw (g .front) (part-room _ _ _ _ _ _ _ _ _ i s (p .room)))
 
 loop-less : tie.Need-loop-less Inv-loop μ-loop
 loop-less c = omega (arith, c .before .before .before .before .loop-test .taken)
