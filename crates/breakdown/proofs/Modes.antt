@@ -13,7 +13,7 @@ use lib.ListN.{length, length-take, length-drop}
 use borrow.Author.Tests.{leb-true, leb-false, ne-eqb, eqb-true, eqb-false}
 use Rattle.number.proofs.Each.{Each, none, _&_}
 use Rattle.number.proofs.Split.{split}
-use Rattle.rules.specs.Chart.{classes, Token, token, class, len, runsFrom, runs, flat, toLast, active, activePart, tokens, streams}
+use Rattle.rules.specs.Chart.{classes, Token, token, class, len, runsFrom, runs, flat, keep, toLast, active, activePart, tokens, streams}
 use Rattle.rules.specs.Reduced.{joins, joinFrom, join, short, absorb, item, Item, snItems, pieces, reduced}
 use Rattle.rules.specs.declared.Kind.{Kind}
 use Rattle.rules.specs.declared.Kind.the-variants.{Sn as sn, Standard as standard}
@@ -22,6 +22,7 @@ use Rattle.rules.specs.declared.BreakdownMode.{BreakdownMode}
 use Rattle.rules.specs.declared.BreakdownMode.the-variants as Mode
 use Rattle.rules.specs.declared.StreamBreakdownLevel.{StreamBreakdownLevel}
 use Rattle.rules.specs.declared.StreamBreakdownLevel.the-variants as Level
+use Rattle.rules.proofs.Shape.{class-below}
 use Rattle.rules.proofs.Steps.{joins-long, short-one, short-long, Closed, tokens-closed, active-part}
 use Rattle.measures.specs.Scan.{paired}
 use Rattle.text_buffer.specs.Behind.{Behind, Alternates}
@@ -34,25 +35,41 @@ use Rattle.text_buffer.proofs.Reading.{opens-break}
 
 -- ---- the tokens of a chart alternate
 
-behind-runs : (b c n : ℕ) (cs : List ℕ) (t : Token) → b ≢ c → 1 ≤ n → Closed t (runsFrom c n cs) → Behind b (runsFrom c n cs)
-behind-runs b c n [] t d h e = (λ z. (λ y. d (y ∙ sym z), h), e)
-behind-runs b c n (x ∷ cs) t d h e =
-    split (eqb c x)
-    (λ z. rw z (behind-runs b c (suc n) cs t d (omega arith) (rw z at e)))
-    (λ z. rw z (λ y. (λ w. d (w ∙ sym y), h), behind-runs c x 1 cs (token c n false) (eqb-false c x z) (omega arith) (rw z at e)))
+abbrev Low : ℕ → Type 0
+Low c = c ≤ 4
 
-alternates : (cs : List ℕ) → Alternates (tokens cs)
+low-classes : (m : List ℕ) → Each Low (classes m)
+low-classes [] = none
+low-classes (d ∷ m) = class-below d & low-classes m
+
+low-keep : (c : ℕ) (cs : List ℕ) → c ≤ 4 → Each Low cs → Each Low (keep c cs)
+low-keep zero [] h l = none
+low-keep zero (d ∷ cs) h l = h & l
+low-keep (suc c) cs h l = h & l
+
+low-last : (cs : List ℕ) → Each Low cs → Each Low (toLast cs)
+low-last [] l = none
+low-last (c ∷ cs) (h & l) = low-keep c (toLast cs) h (low-last cs l)
+
+behind-runs : (b c n : ℕ) (cs : List ℕ) (t : Token) → b ≢ c → 1 ≤ n → b ≤ 4 → c ≤ 4 → Each Low cs → Closed t (runsFrom c n cs) → Behind b (runsFrom c n cs)
+behind-runs b c n [] t d h lb lc ls e = (λ z. (λ y. d (y ∙ sym z), h), (e, lc), lb)
+behind-runs b c n (x ∷ cs) t d h lb lc (lx & ls) e =
+    split (eqb c x)
+    (λ z. rw z (behind-runs b c (suc n) cs t d (omega arith) lb lc ls (rw z at e)))
+    (λ z. rw z (λ y. (λ w. d (w ∙ sym y), h), behind-runs c x 1 cs (token c n false) (eqb-false c x z) (omega arith) lc lx ls (rw z at e), lb))
+
+alternates : (cs : List ℕ) → Each Low cs → Alternates (tokens cs)
 unfolding tokens active
-alternates [] = tt
-alternates (zero ∷ cs) = alternates cs
-alternates (suc c ∷ cs) =
+alternates [] l = tt
+alternates (zero ∷ cs) (h & l) = alternates cs l
+alternates (suc c ∷ cs) (h & l) =
     let t = token 1 1 false in
-    opens-break (tokens (suc c ∷ cs)) (behind-runs 0 (suc c) 1 (toLast cs) t (λ e. omega arith) (omega arith) (tokens-closed t (suc c ∷ cs) (suc-ne-zero 0)))
+    opens-break (tokens (suc c ∷ cs)) (behind-runs 0 (suc c) 1 (toLast cs) t (λ e. omega arith) (omega arith) (omega arith) h (low-last cs l) (tokens-closed t (suc c ∷ cs) (suc-ne-zero 0)))
 
 -- ---- the tokens of a chart, in two slices
 
 pub tokens-of : (cs ns chart : List ℕ) → paired cs ns ≡ tokens (classes chart) → length cs ≡ length ns → length cs ≤ 1048576 → Tokens cs ns
-tokens-of cs ns chart e l h = record { long = l; few = h; alternates = rw e (alternates (classes chart)) }
+tokens-of cs ns chart e l h = record { long = l; few = h; alternates = rw e (alternates (classes chart) (low-classes chart)) }
 
 -- ---- the measures of its active part
 
@@ -63,7 +80,7 @@ module _ (chart : List ℕ) where
 
   pub active-measures : length chart ≤ 1048576 → ActiveMeasures (activePart chart)
   unfolding activePart
-  active-measures h = record { few = simp (length-take, length-drop) (omega arith); alternates = rw part-tokens (alternates (classes chart)) }
+  active-measures h = record { few = simp (length-take, length-drop) (omega arith); alternates = rw part-tokens (alternates (classes chart) (low-classes chart)) }
 
 -- ---- breaks have a length, so with the limit 0 nothing joins, and below 2 nothing is added
 
@@ -74,8 +91,8 @@ behind-long : (c : ℕ) (ts : List Token) → Behind c ts → Each Long ts
 behind-long c [] h = none
 behind-long c (token d n s ∷ ts) h = (λ e. h .0 e .1) & behind-long d ts (h .1)
 
-tokens-long : (cs : List ℕ) → Each Long (tokens cs)
-tokens-long cs = go (tokens cs) (alternates cs)
+tokens-long : (cs : List ℕ) → Each Low cs → Each Long (tokens cs)
+tokens-long cs l = go (tokens cs) (alternates cs l)
   where
     go : (ts : List Token) → Alternates ts → Each Long ts
     go [] h = none
@@ -189,13 +206,13 @@ module _ (ts : List Token) (chart : List ℕ) (e : ts ≡ tokens (classes chart)
   pub sn-text : (mode : BreakdownMode) → snOf (limitOf mode) ts ≡ text (sn mode) chart
   unfolding text reduced
   sn-text mode =
-      rw e (ap spaced (sn-items mode (tokens (classes chart)) (tokens-long (classes chart))) ∙ sn-render mode (snItems mode (tokens (classes chart))))
+      rw e (ap spaced (sn-items mode (tokens (classes chart)) (tokens-long (classes chart) (low-classes chart))) ∙ sn-render mode (snItems mode (tokens (classes chart))))
 
   from-pieces : (l : StreamBreakdownLevel) (b : Bool) (k : ℕ) → standardOf b k ts ≡ render (standard l) (map (item (gapItem b)) (join k (pieces (classes chart))))
   from-pieces l b k = rw (e, pieces-merged (classes chart)) (standard-render l b k (tokens (classes chart)))
 
   alone : join 0 (pieces (classes chart)) ≡ pieces (classes chart)
-  alone = join-none (pieces (classes chart)) (rw (pieces-merged (classes chart)) (long-merged (tokens (classes chart)) (tokens-long (classes chart))))
+  alone = join-none (pieces (classes chart)) (rw (pieces-merged (classes chart)) (long-merged (tokens (classes chart)) (tokens-long (classes chart) (low-classes chart))))
 
   -- Standard
   pub detailed-text : standardOf false 0 ts ≡ text (standard Level.Detailed) chart

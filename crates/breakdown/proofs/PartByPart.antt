@@ -31,7 +31,7 @@ use Rattle.standard_text.specs.declared.piece.Piece.{Piece}
 use Rattle.text_buffer.specs.declared.run.Run.{Run}
 use Rattle.measures.specs.declared.scan.Taken.{Taken}
 use Rattle.breakdown.proofs.Measures.{lastClass, behind-front, behind-back, behind-any, last-paired, paired-length}
-use Rattle.text_buffer.proofs.Reading.{Stepped, stepped}
+use Rattle.text_buffer.proofs.Reading.{behind-low, Stepped, stepped}
 
 -- ---- the first token
 
@@ -42,15 +42,15 @@ any-class (suc c) n s [] h = refl
 any-class (suc c) n s (token zero m t ∷ ps) h = refl
 any-class (suc c) n s (token (suc d) m t ∷ ps) h = refl
 
-module _ (f : Form) (c n : ℕ) (h : c ≢ 0) (l : n < 4294967296) where
+module _ (f : Form) (c n : ℕ) (h : (c ≢ 0) × (c ≤ 4)) (l : n < 4294967296) where
   pub first-sn : f .sn ≡ true → FirstRun f c n (record { class = c; length = n; starred = false })
-  first-sn e = record { run = record { run = h; piece = λ z. absurd (true≢false (sym e ∙ z)) }; text = λ ts. rw e refl; long = refl; small = l }
+  first-sn e = record { run = record { run = h .0; low = h .1; piece = λ z. absurd (true≢false (sym e ∙ z)) }; text = λ ts. rw e refl; long = refl; small = l }
 
   pub first-standard : f .sn ≡ false → FirstRun f c n (record { class = 1; length = n; starred = false })
   first-standard e =
       record {
-        run = record { run = suc-ne-zero 0; piece = λ z. refl };
-        text = λ ts. rw (e, any-class c n false _ h) refl;
+        run = record { run = suc-ne-zero 0; low = omega arith; piece = λ z. refl };
+        text = λ ts. rw (e, any-class c n false _ (h .0)) refl;
         long = refl;
         small = l;
       }
@@ -74,7 +74,7 @@ pub piece-part : (f : Form) (r : Run) (cs ns : List ℕ) {old out : List ℕ} {f
     → PartWritten (partText f r cs ns) (openText f (pieceRun p)) old out from buf new to × OpenNext f r (length cs) (pieceRun p)
 piece-part f r cs ns e p w = (
   record { done = w .0 .done; whole = λ more. rw e (w .0 .whole more); wrote = w .0 .wrote },
-  record { run = record { run = suc-ne-zero 0; piece = λ z. refl }; small = w .1 },
+  record { run = record { run = suc-ne-zero 0; low = omega arith; piece = λ z. refl }; small = w .1 },
 )
 
 -- ---- no tokens
@@ -89,7 +89,7 @@ lastOf c [] = c
 lastOf c (d ∷ cs) = lastOf d cs
 
 ends : (b c n : ℕ) (cs : List ℕ) → Behind b (runsFrom c n cs) → lastOf c cs ≢ 0
-ends b c n [] h = h .1
+ends b c n [] h = h .1 .0
 ends b c n (d ∷ cs) h =
     split (eqb c d)
     (λ e. rw (← (eqb-true c d e)) (ends b c (suc n) cs (rw e at h)))
@@ -125,8 +125,8 @@ module _ {m : List ℕ} (a : ActiveMeasures m) (h : 0 < length m) (t : ViewToken
   first-behind : Behind 0 (token (t .class) (t .length) false ∷ runs (classes (drop (t .length) m)))
   first-behind = rw (step .rest) at (a .alternates)
 
-  pub first-class : t .class ≢ 0
-  first-class z = first-behind .0 z .0 refl
+  pub first-class : (t .class ≢ 0) × (t .class ≤ 4)
+  first-class = (λ z. first-behind .0 z .0 refl, behind-low (t .class) (runs (classes (drop (t .length) m))) (first-behind .1))
 
   pub first-some : 1 ≤ t .length
   first-some = step .some
@@ -139,7 +139,7 @@ module _ {m : List ℕ} (a : ActiveMeasures m) (h : 0 < length m) (t : ViewToken
     first-along =
         record {
           run = g .run;
-          behind = behind-any (t .class) (r .class) (runs (classes (drop (t .length) m))) (g .run .run) (first-behind .1);
+          behind = behind-any (t .class) (r .class) (runs (classes (drop (t .length) m))) (g .run .run) (g .run .low) (first-behind .1);
           small = omega (arith, g .long, step .some);
           within = step .fits;
         }
@@ -205,7 +205,7 @@ module _ {m : List ℕ} {f : Form} {r : Run} {i : ℕ} (a : Along m f r i) where
       on {u} o =
           record {
             run = o .run;
-            behind = behind-any _ (u .class) more (o .run .run) (behind-back (r .class) (paired (take (t .tokens) cs) (take (t .tokens) ns)) more behind);
+            behind = behind-any _ (u .class) more (o .run .run) (o .run .low) (behind-back (r .class) (paired (take (t .tokens) cs) (take (t .tokens) ns)) more behind);
             small = omega (arith, o .small, a .small, longC, g .fits, g .on);
             within = next-within;
           }
@@ -259,8 +259,8 @@ module _ {cs ns : List ℕ} (t : Tokens cs ns) where
     all-behind : Behind 0 (token (getD cs 0 0) (getD ns 0 0) false ∷ paired backC backN)
     all-behind = rw first-here at (t .alternates)
 
-    pub class-here : getD cs 0 0 ≢ 0
-    class-here z = all-behind .0 z .0 refl
+    pub class-here : (getD cs 0 0 ≢ 0) × (getD cs 0 0 ≤ 4)
+    class-here = (λ z. all-behind .0 z .0 refl, behind-low (getD cs 0 0) (paired backC backN) (all-behind .1))
 
     module _ (f : Form) {r : Run} (g : FirstRun f (getD cs 0 0) (getD ns 0 0) r) where
       pub tokens-behind : TokensBehind (r .class) backC backN
@@ -271,7 +271,7 @@ module _ {cs ns : List ℕ} (t : Tokens cs ns) where
             long = omega (arith, t .long);
             few = omega (arith, t .few);
             run = g .run .run;
-            behind = behind-any (getD cs 0 0) (r .class) (paired backC backN) (g .run .run) (all-behind .1);
+            behind = behind-any (getD cs 0 0) (r .class) (paired backC backN) (g .run .run) (g .run .low) (all-behind .1);
           }
 
       pub tokens-text : textOf f (paired cs ns) ≡ partText f r backC backN []

@@ -58,6 +58,7 @@ partText f r cs ns more = openText f r (paired cs ns ++ more)
 -- a run that is open; one of a standard text is a piece
 pub record Open (f : Form) (r : Run) : Type 0 where
   pub run : r .class ≢ 0
+  pub low : r .class ≤ 4
   pub piece : f .sn ≡ false → r .class ≡ 1
 
 -- the run that is open behind a part of so many tokens

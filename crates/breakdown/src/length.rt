@@ -21,7 +21,7 @@ ghost use Rattle.breakdown.specs.Forms.{textOf, ActiveMeasures};
 ghost use Rattle.breakdown.specs.Lengths.{FirstTally, TallyReady, TallyOn, each, bothEach, endedLength, LastTallies, DueOf};
 
 fn first_tally(form: Form, class: u8, n: u32) -> Tally
-    requires { ⌜ class ≢ 0 ⌝ }
+    requires { ⌜ (class ≢ 0) × (class ≤ 4) ⌝ }
     ensures { λ r. ⌜ FirstTally form class n r ⌝ }
 {
     Tally {
@@ -106,7 +106,7 @@ struct Six {
 }
 
 fn six_first(class: u8, n: u32) -> Six
-    requires { ⌜ class ≢ 0 ⌝ }
+    requires { ⌜ (class ≢ 0) × (class ≤ 4) ⌝ }
     ensures { λ r. ⌜ each (λ f t. FirstTally f class n t) r ⌝ }
 {
     Six {

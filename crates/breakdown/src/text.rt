@@ -72,7 +72,7 @@ fn text_part(
 
 // The run or piece of the first token.
 pub fn first_run(form: Form, class: u8, length: u32) -> Run
-    requires { ⌜ class ≢ 0 ⌝ }
+    requires { ⌜ (class ≢ 0) × (class ≤ 4) ⌝ }
     ensures { λ r. ⌜ FirstRun form class length r ⌝ }
 {
     Run {
@@ -95,7 +95,7 @@ fn add_none(form: Form, buf: &mut [u8], k: usize) -> usize
 
 // The last run or piece.
 fn add_last(done: Done, words: &[u32; 192], buf: &mut [u8], out: &mut [u8]) -> Left
-    requires { ⌜ Ready (now buf) (done .to .left) (now words) × Room (now out) (done .to .place) (take (done .to .left) (now buf) ++ runText (done .run)) ⌝ }
+    requires { ⌜ Ready (now buf) (done .to .left) (now words) × (done .run .class ≤ 4) × Room (now out) (done .to .place) (take (done .to .left) (now buf) ++ runText (done .run)) ⌝ }
     ensures { λ r. ⌜ Added (now (buf .entry)) (now (out .entry)) (done .to) (runText (done .run)) (now (buf .exit)) (now (out .exit)) r ⌝ }
 {
     let to = done.to;

@@ -29,7 +29,7 @@ use Rattle.text_buffer.specs.Parts.{TokensBehind, PartRoom, PartWritten, PartMe
 use Rattle.sn_text.specs.SnParts.{OpenRun, spaced, snOf, snPart, snOn, ended, longBreak, joinClass, TokenAt, RunAt, WithBreak, SideLength}
 use Rattle.text_buffer.specs.Words.{side}
 use Rattle.text_buffer.proofs.Bytes.{sign-one}
-use Rattle.text_buffer.proofs.Reading.{none-left, slices-next, run-behind}
+use Rattle.text_buffer.proofs.Reading.{behind-low, none-left, slices-next, run-behind}
 use Rattle.sn_text.proofs.Groups.{drop-append, after-run, after-join, after-apart, break-tokens, one-shows, short-shows, long-shows}
 use Rattle.text_buffer.proofs.Added.{added-none, added-room, added, grown-room, grown-added, step-room, step}
 use Rattle.text_buffer.specs.declared.buffer.Left.{Left}
@@ -142,7 +142,7 @@ module _ {cs ns : List ℕ} {i : ℕ} (a : TokenAt cs ns i) where
     pub run-inside : i + 1 < length cs
     run-inside =
         split (leb (length cs) (suc i))
-        (λ e. absurd (rw (none-left cs ns (suc i) (leb-true _ _ e)) at (left-behind .1) refl))
+        (λ e. absurd (rw (none-left cs ns (suc i) (leb-true _ _ e)) at (left-behind .1) .0 refl))
         (λ e. rw add-one (leb-false _ _ e))
 
     second : drop (suc i) (paired cs ns) ≡ token (getD cs (suc i) 0) (getD ns (suc i) 0) false ∷ drop (suc (suc i)) (paired cs ns)
@@ -186,8 +186,11 @@ module _ {k : ℕ} {t : Token} {cs ns done : List ℕ} {u : Token} {i : ℕ} (o 
   pub opened-at : length cs ≡ length ns → i < length cs → TokenAt cs ns i
   opened-at l h = record { long = l; inside = h; earlier = class u; behind = o .behind }
 
+  pub opened-low : class u ≤ 4
+  opened-low = behind-low (class u) (drop i (paired cs ns)) (o .behind)
+
   pub opened-ends : length cs ≤ i → OpenRun t cs u
-  opened-ends h = record { run = o .run; small = omega (arith, o .small, o .within) }
+  opened-ends h = record { run = o .run; low = opened-low; small = omega (arith, o .small, o .within) }
 
   pub opened-whole : length cs ≤ i → (more : List Token) → snPart k t cs ns more ≡ done ++ snOn k u more
   opened-whole h more = o .whole more ∙ rw (none-left cs ns i h)
@@ -356,7 +359,7 @@ module _ (t : Token) (d n : ℕ) (us more : List Token) (b : Behind (class t) (t
 
 some-follow : (d n : ℕ) (us more : List Token) → Behind d us → 0 < length (shown 0 ((token d n false ∷ us) ++ more))
 some-follow (suc d) n us more b = some-shown 0 (token (suc d) n false) (us ++ more) (suc-ne-zero d)
-some-follow zero n [] more b = absurd (b refl)
+some-follow zero n [] more b = absurd (b .0 refl)
 some-follow zero n (token e m s ∷ us) more b =
     let r : e ≢ 0 = run-behind (token e m s ∷ us) b in
     rw (run-follows (token 0 n false) (token e m s) (us ++ more) r, length-append)
@@ -432,7 +435,7 @@ module _ {cs ns : List ℕ} {start total i : ℕ} (w : Summing cs ns start total
           whole = λ more. omega (arith, ap {B = ℕ} length (first-text c n s b h more), length-append (word (run c n s) ++ (32 ∷ [])) (snOf 0 (paired cs ns ++ more)), length-append (word (run c n s)) (32 ∷ []), rw last at (w .sum more), r .number, z);
           short = omega (arith, w .short, r .short, z, e, f);
         },
-        record { run = rw last at (w .behind) .1; small = omega arith },
+        record { run = rw last at (w .behind) .1 .0; low = rw last at (w .behind) .1 .1; small = omega arith },
       )
 
 -- ---- a part is written, token by token
@@ -447,6 +450,10 @@ pub record Listing (cs ns old out : List ℕ) (from : Left) (buf new : List ℕ)
 
 pub listing-starts : (cs ns buf out : List ℕ) (from : Left) (c : ℕ) → Behind c (paired cs ns) → from .left ≤ 448 → Listing cs ns buf out from buf out from 0
 listing-starts cs ns buf out from c b l = record { done = []; whole = λ more. refl; earlier = c; behind = b; wrote = added-none l }
+
+pub listing-low : {cs ns old out : List ℕ} {from : Left} {buf mid : List ℕ} {to : Left} {i : ℕ} → Listing cs ns old out from buf mid to i
+    → length cs ≡ length ns → i + 1 < length cs → getD cs i 0 ≤ 4
+listing-low {cs} {ns} {i = i} w l h = behind-low (getD cs i 0) (drop (suc i) (paired cs ns)) (behind-on cs ns i (w .earlier) (w .behind) l h)
 
 module _ {cs ns old out : List ℕ} {from : Left} {buf mid : List ℕ} {to : Left} {i : ℕ} (w : Listing cs ns old out from buf mid to i)
     (l : length cs ≡ length ns) (h : i + 1 < length cs) {new : List ℕ} {full : ℕ}
@@ -498,7 +505,7 @@ module _ (c n : ℕ) (s : Bool) {cs ns : List ℕ} (b : TokensBehind c cs ns) (h
             whole = λ more. opens more ∙ ap (λ (l : List ℕ). front ++ l) (w .whole more) ∙ sym (append-assoc front (w .done) _) ∙ rw last;
             wrote = added front (grown-added front g f) (w .done) (w .wrote);
           },
-          record { run = rw last at (w .behind) .1; small = omega arith },
+          record { run = rw last at (w .behind) .1 .0; low = rw last at (w .behind) .1 .1; small = omega arith },
         )
 
 -- ---- a part is measured, run by run

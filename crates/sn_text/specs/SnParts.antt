@@ -43,6 +43,7 @@ snOn k t more = snOf k (t ∷ more)
 -- the run that is open behind a part of as many tokens as cs has, when t was open before
 pub record OpenRun (t : Token) (cs : List ℕ) (u : Token) : Type 0 where
   pub run : class u ≢ 0
+  pub low : class u ≤ 4
   pub small : len u ≤ len t + 4294967296 * length cs
 
 -- a part can be written: an open run, the tokens behind it, the table, a buffer that has room, and room for the text of all this
@@ -92,6 +93,7 @@ pub record RunAt (cs ns : List ℕ) (i g c n next : ℕ) : Type 0 where
 -- a run t and a break of g over which no run joins are shown as a run u, and the break if it is a long one
 pub record WithBreak (k : ℕ) (t : Token) (g : ℕ) (u : Token) : Type 0 where
   pub shows : shown k (t ∷ breakTokens g) ≡ u ∷ longBreak k g
+  pub same : class u ≡ class t
   pub run : class u ≢ 0
 
 -- r bytes on each side of the length of a token of class c, whichever the parentheses

@@ -11,7 +11,7 @@ use text_buffer::run::Tally;
 use text_buffer::run::add_ended;
 use text_buffer::run::open_run;
 use text_buffer::run::run_length;
-use text_buffer::words::word_at;
+use text_buffer::words::class_word;
 ghost use Prim.Native.Nat.{_+_, _^_, _≤_, _<_};
 ghost use mathlib.Core.Path.{_≡_};
 ghost use mathlib.Core.Bool.{cond, false};
@@ -107,7 +107,7 @@ fn with_break(limit: u32, run: Run, gap: u32) -> Run
 
 // A run with a break behind it over which no run joins, and the sign and a space of a break that is longer than the limit.
 fn add_group(buf: &mut [u8], k: usize, limit: u32, run: Run, gap: u32, words: &[u32; 192]) -> usize
-    requires { ⌜ (k + 29 ≤ length (now buf)) × Words (now words) × (1 ≤ limit) × (run .class ≢ 0) × (run .length + gap < 2 ^ 64) ⌝ }
+    requires { ⌜ (k + 29 ≤ length (now buf)) × Words (now words) × (1 ≤ limit) × (run .class ≢ 0) × (run .class ≤ 4) × (run .length + gap < 2 ^ 64) ⌝ }
     ensures { λ r. ⌜ Grown (now (buf .entry)) (now (buf .exit)) k (ended limit (shown limit (runToken run ∷ breakTokens gap))) r ⌝ }
 {
     let a = add_ended(buf, k, with_break(limit, run, gap), words);
@@ -188,12 +188,12 @@ fn dense_joined_part(
 
 // A run or a break, by its length, and a space; nothing for a break of 1.
 fn add_token(buf: &mut [u8], k: usize, class: u8, n: u32, words: &[u32; 192]) -> usize
-    requires { ⌜ (k + 26 ≤ length (now buf)) × Words (now words) ⌝ }
+    requires { ⌜ (k + 26 ≤ length (now buf)) × Words (now words) × (class ≤ 4) ⌝ }
     ensures { λ r. ⌜ Grown (now (buf .entry)) (now (buf .exit)) k (ended 0 (dropOnes (token class n false ∷ []))) r ⌝ }
 {
-    let a = add_word(buf, k, word_at(words, 105, 4, class as u32));
+    let a = add_word(buf, k, class_word(words, 105, class));
     let b = add_number(buf, a, n as u64, words);
-    let c = add_word(buf, b, word_at(words, 110, 4, class as u32));
+    let c = add_word(buf, b, class_word(words, 110, class));
     if (class == 0) & (n == 1) { k } else { c }
 }
 

@@ -59,10 +59,10 @@ pub record RunFirst (ts : List Token) : Type 0 where
   pub run : class ≢ 0
 
 run-first : (cs ns : List ℕ) (i : ℕ) → Behind 0 (drop i (paired cs ns)) → RunFirst (drop i (paired cs ns))
-run-first [] ns zero h = absurd (h refl)
-run-first [] ns (suc i) h = absurd (h refl)
-run-first (c ∷ cs) [] zero h = absurd (h refl)
-run-first (c ∷ cs) [] (suc i) h = absurd (h refl)
+run-first [] ns zero h = absurd (h .0 refl)
+run-first [] ns (suc i) h = absurd (h .0 refl)
+run-first (c ∷ cs) [] zero h = absurd (h .0 refl)
+run-first (c ∷ cs) [] (suc i) h = absurd (h .0 refl)
 run-first (c ∷ cs) (n ∷ ns) zero h = record { class = c; len = n; rest = paired cs ns; here = refl; run = λ e. h .0 e .0 refl }
 run-first (c ∷ cs) (n ∷ ns) (suc i) h = run-first cs ns i h
 

@@ -73,6 +73,13 @@ some-run Run20 n = refl
 some-run Run24 n = refl
 some-run Run32 n = refl
 
+pub number-low : (c : RunDensity) → classNumber c ≤ 4
+number-low Break = omega arith
+number-low Run16 = omega arith
+number-low Run20 = omega arith
+number-low Run24 = omega arith
+number-low Run32 = omega arith
+
 -- by the class's number k and the symbol's length l
 module _ (c : RunDensity) (k n : ℕ) (s : Bool) (old : List ℕ) (e : k ≡ classNumber c) where
   pub symbol-5 : k ≡ 0 → RunSymbol c n s old old (refusal 5)

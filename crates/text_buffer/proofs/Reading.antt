@@ -15,6 +15,7 @@ use Rattle.rules.proofs.Steps.{map-drop}
 use Rattle.rules.proofs.View.{leading, first-run}
 use Rattle.measures.proofs.Stepping.{run-fits}
 use Rattle.measures.specs.Scan.{paired}
+use Rattle.text_buffer.specs.Parts.{TokensBehind}
 use Rattle.text_buffer.specs.Behind.{Behind, Alternates, firstClass}
 
 -- ---- tokens in two slices
@@ -65,5 +66,13 @@ opens-break [] h = tt
 opens-break (t ∷ ts) h = h
 
 pub run-behind : (ts : List Token) → Behind 0 ts → firstClass ts ≢ 0
-run-behind [] h = h
+run-behind [] h = h .0
 run-behind (token d n s ∷ ts) h = λ e. h .0 e .0 refl
+
+-- the class is at most 4
+pub behind-low : (c : ℕ) (ts : List Token) → Behind c ts → c ≤ 4
+behind-low c [] b = b .1
+behind-low c (token d n s ∷ ts) b = b .2
+
+pub tokens-low : {c : ℕ} {cs ns : List ℕ} → TokensBehind c cs ns → c ≤ 4
+tokens-low {c} {cs} {ns} b = behind-low c (paired cs ns) (b .behind)

@@ -1,6 +1,6 @@
 -- The table of words is right.
 -- Assumes nothing.
-use Prim.Native.Nat.{ℕ, zero, suc, _+_, _*_, _/_, _%_, _<_, min}
+use Prim.Native.Nat.{ℕ, zero, suc, _+_, _*_, _/_, _%_, _≤_, _<_, min}
 use mathlib.Core.Path.{_≡_, refl, ap, sym, _∙_}
 use mathlib.Core.Bool.{cond}
 use mathlib.Core.List.{List, [], _∷_, _++_, map}
@@ -97,43 +97,45 @@ behind-row (x ∷ row) more (suc i) k e = behind-row row more i k (omega arith)
 number-at : (n : ℕ) → n < 100 → Word (digits n) (getD table n 0)
 number-at n h = rw (at numberWord (byClass ++ (signs ++ (parts ++ []))) 0 100 n h, zero-add n) (number-right n h)
 
-most : (c : ℕ) → min (suc (suc (suc (suc c)))) 4 ≡ 4
-most c = omega arith
+mark-at : (c : ℕ) → c ≤ 4 → Word (mark c) (getD table (100 + c) 0)
+mark-at zero h = record { text = refl; short = omega arith }
+mark-at (suc zero) h = record { text = refl; short = omega arith }
+mark-at (suc (suc zero)) h = record { text = refl; short = omega arith }
+mark-at (suc (suc (suc zero))) h = record { text = refl; short = omega arith }
+mark-at (suc (suc (suc (suc zero)))) h = record { text = refl; short = omega arith }
+mark-at (suc (suc (suc (suc (suc c))))) h = absurd (omega arith)
 
-mark-at : (c : ℕ) → Word (mark c) (getD table (100 + min c 4) 0)
-mark-at zero = record { text = refl; short = omega arith }
-mark-at (suc zero) = record { text = refl; short = omega arith }
-mark-at (suc (suc zero)) = record { text = refl; short = omega arith }
-mark-at (suc (suc (suc zero))) = record { text = refl; short = omega arith }
-mark-at (suc (suc (suc (suc c)))) = rw (most c) (record { text = refl; short = omega arith })
+before-at : (c : ℕ) → c ≤ 4 → Word (side 40 c) (getD table (105 + c) 0)
+before-at zero h = record { text = refl; short = omega arith }
+before-at (suc zero) h = record { text = refl; short = omega arith }
+before-at (suc (suc zero)) h = record { text = refl; short = omega arith }
+before-at (suc (suc (suc zero))) h = record { text = refl; short = omega arith }
+before-at (suc (suc (suc (suc zero)))) h = record { text = refl; short = omega arith }
+before-at (suc (suc (suc (suc (suc c))))) h = absurd (omega arith)
 
-before-at : (c : ℕ) → Word (side 40 c) (getD table (105 + min c 4) 0)
-before-at zero = record { text = refl; short = omega arith }
-before-at (suc zero) = record { text = refl; short = omega arith }
-before-at (suc (suc zero)) = record { text = refl; short = omega arith }
-before-at (suc (suc (suc zero))) = record { text = refl; short = omega arith }
-before-at (suc (suc (suc (suc c)))) = rw (most c) (record { text = refl; short = omega arith })
+behind-at : (c : ℕ) → c ≤ 4 → Word (side 41 c ++ bytes " ") (getD table (110 + c) 0)
+behind-at zero h = record { text = refl; short = omega arith }
+behind-at (suc zero) h = record { text = refl; short = omega arith }
+behind-at (suc (suc zero)) h = record { text = refl; short = omega arith }
+behind-at (suc (suc (suc zero))) h = record { text = refl; short = omega arith }
+behind-at (suc (suc (suc (suc zero)))) h = record { text = refl; short = omega arith }
+behind-at (suc (suc (suc (suc (suc c))))) h = absurd (omega arith)
 
-behind-at : (c : ℕ) → Word (side 41 c ++ bytes " ") (getD table (110 + min c 4) 0)
-behind-at zero = record { text = refl; short = omega arith }
-behind-at (suc zero) = record { text = refl; short = omega arith }
-behind-at (suc (suc zero)) = record { text = refl; short = omega arith }
-behind-at (suc (suc (suc zero))) = record { text = refl; short = omega arith }
-behind-at (suc (suc (suc (suc c)))) = rw (most c) (record { text = refl; short = omega arith })
+ended-at : (c : ℕ) → c ≤ 4 → Word (mark c ++ bytes " ") (getD table (115 + c) 0)
+ended-at zero h = record { text = refl; short = omega arith }
+ended-at (suc zero) h = record { text = refl; short = omega arith }
+ended-at (suc (suc zero)) h = record { text = refl; short = omega arith }
+ended-at (suc (suc (suc zero))) h = record { text = refl; short = omega arith }
+ended-at (suc (suc (suc (suc zero)))) h = record { text = refl; short = omega arith }
+ended-at (suc (suc (suc (suc (suc c))))) h = absurd (omega arith)
 
-ended-at : (c : ℕ) → Word (mark c ++ bytes " ") (getD table (115 + min c 4) 0)
-ended-at zero = record { text = refl; short = omega arith }
-ended-at (suc zero) = record { text = refl; short = omega arith }
-ended-at (suc (suc zero)) = record { text = refl; short = omega arith }
-ended-at (suc (suc (suc zero))) = record { text = refl; short = omega arith }
-ended-at (suc (suc (suc (suc c)))) = rw (most c) (record { text = refl; short = omega arith })
-
-starred-at : (c : ℕ) → Word (mark c ++ bytes "* ") (getD table (120 + min c 4) 0)
-starred-at zero = record { text = refl; short = omega arith }
-starred-at (suc zero) = record { text = refl; short = omega arith }
-starred-at (suc (suc zero)) = record { text = refl; short = omega arith }
-starred-at (suc (suc (suc zero))) = record { text = refl; short = omega arith }
-starred-at (suc (suc (suc (suc c)))) = rw (most c) (record { text = refl; short = omega arith })
+starred-at : (c : ℕ) → c ≤ 4 → Word (mark c ++ bytes "* ") (getD table (120 + c) 0)
+starred-at zero h = record { text = refl; short = omega arith }
+starred-at (suc zero) h = record { text = refl; short = omega arith }
+starred-at (suc (suc zero)) h = record { text = refl; short = omega arith }
+starred-at (suc (suc (suc zero))) h = record { text = refl; short = omega arith }
+starred-at (suc (suc (suc (suc zero)))) h = record { text = refl; short = omega arith }
+starred-at (suc (suc (suc (suc (suc c))))) h = absurd (omega arith)
 
 sign-at : (g : ℕ) → Word (word (signOf 32 g) ++ bytes " ") (getD table (125 + min g 33) 0)
 sign-at g =

@@ -6,10 +6,10 @@ use mathlib.Core.Logic.{_≢_}
 use mathlib.Core.List.{List, [], _∷_}
 use Rattle.rules.specs.Chart.{Token, token, class}
 
--- what may stand behind a token of class c: a run, and behind a run also a break, which has a length; the last is a run
+-- what may stand behind a token of class c, at most 4: a run, and behind a run also a break, which has a length; the last is a run
 abbrev pub Behind : ℕ → List Token → Type 0
-Behind c [] = c ≢ 0
-Behind c (token d n s ∷ ts) = (d ≡ 0 → (c ≢ 0) × (1 ≤ n)) × Behind d ts
+Behind c [] = (c ≢ 0) × (c ≤ 4)
+Behind c (token d n s ∷ ts) = (d ≡ 0 → (c ≢ 0) × (1 ≤ n)) × Behind d ts × (c ≤ 4)
 
 -- no tokens, or a run first, as behind a break
 abbrev pub Alternates : List Token → Type 0

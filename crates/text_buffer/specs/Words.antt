@@ -27,10 +27,10 @@ pub record Word (xs : List ℕ) (w : ℕ) : Type 0 where
 -- behind a run's length with a space, and with a star too; by length: the signs of SN texts with a space, and those of standard texts
 pub record Words (t : List ℕ) : Type 0 where
   pub number : (n : ℕ) → n < 100 → Word (digits n) (getD t n 0)
-  pub marks : (c : ℕ) → Word (mark c) (getD t (100 + min c 4) 0)
-  pub before : (c : ℕ) → Word (side 40 c) (getD t (105 + min c 4) 0)
-  pub behind : (c : ℕ) → Word (side 41 c ++ bytes " ") (getD t (110 + min c 4) 0)
-  pub ended : (c : ℕ) → Word (mark c ++ bytes " ") (getD t (115 + min c 4) 0)
-  pub starred : (c : ℕ) → Word (mark c ++ bytes "* ") (getD t (120 + min c 4) 0)
+  pub marks : (c : ℕ) → c ≤ 4 → Word (mark c) (getD t (100 + c) 0)
+  pub before : (c : ℕ) → c ≤ 4 → Word (side 40 c) (getD t (105 + c) 0)
+  pub behind : (c : ℕ) → c ≤ 4 → Word (side 41 c ++ bytes " ") (getD t (110 + c) 0)
+  pub ended : (c : ℕ) → c ≤ 4 → Word (mark c ++ bytes " ") (getD t (115 + c) 0)
+  pub starred : (c : ℕ) → c ≤ 4 → Word (mark c ++ bytes "* ") (getD t (120 + c) 0)
   pub signs : (g : ℕ) → Word (word (signOf 32 g) ++ bytes " ") (getD t (125 + min g 33) 0)
   pub parts : (g : ℕ) → Word (part (signOf 31 g)) (getD t (159 + min g 32) 0)

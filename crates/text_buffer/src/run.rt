@@ -4,8 +4,8 @@ use crate::buffer::add_number;
 use crate::buffer::add_word;
 use crate::buffer::number_length;
 use crate::buffer::put_buffer;
+use crate::words::class_word;
 use crate::words::end_word;
-use crate::words::word_at;
 ghost use Prim.Native.Nat.{_+_, _≤_, _<_};
 ghost use mathlib.Core.Path.{_≡_};
 ghost use mathlib.Core.Bool.{false};
@@ -60,17 +60,17 @@ pub fn add_star(buf: &mut [u8], k: usize, starred: bool) -> usize
 
 // A run and a space, in the buffer.
 pub fn add_ended(buf: &mut [u8], k: usize, run: Run, words: &[u32; 192]) -> usize
-    requires { ⌜ (k + 26 ≤ length (now buf)) × Words (now words) ⌝ }
+    requires { ⌜ (k + 26 ≤ length (now buf)) × Words (now words) × (run .class ≤ 4) ⌝ }
     ensures { λ r. ⌜ Grown (now (buf .entry)) (now (buf .exit)) k (runText run ++ bytes " ") r ⌝ }
 {
-    let a = add_word(buf, k, word_at(words, 100, 4, run.class as u32));
+    let a = add_word(buf, k, class_word(words, 100, run.class));
     let b = add_number(buf, a, run.length, words);
     add_word(buf, b, end_word(words, run.class, run.starred))
 }
 
 // .. without the space.
 pub fn add_run(buf: &mut [u8], k: usize, run: Run, words: &[u32; 192]) -> usize
-    requires { ⌜ (k + 26 ≤ length (now buf)) × Words (now words) ⌝ }
+    requires { ⌜ (k + 26 ≤ length (now buf)) × Words (now words) × (run .class ≤ 4) ⌝ }
     ensures { λ r. ⌜ Grown (now (buf .entry)) (now (buf .exit)) k (runText run) r ⌝ }
 {
     add_ended(buf, k, run, words) - 1
@@ -78,7 +78,7 @@ pub fn add_run(buf: &mut [u8], k: usize, run: Run, words: &[u32; 192]) -> usize
 
 // A run at a place of the lent slice.
 pub fn put_run(out: &mut [u8], at: usize, buf: &mut [u8], run: Run, words: &[u32; 192]) -> usize
-    requires { ⌜ (26 ≤ length (now buf)) × Words (now words) × Room (now out) at (runText run) ⌝ }
+    requires { ⌜ (26 ≤ length (now buf)) × Words (now words) × (run .class ≤ 4) × Room (now out) at (runText run) ⌝ }
     ensures { λ r. ⌜ Wrote (now (out .entry)) (now (out .exit)) at (runText run) r ⌝ }
 {
     let k = add_run(buf, 0, run, words);

@@ -1,7 +1,7 @@
 // Texts of up to three bytes in a table, so that one is written by one look-up: a word has the first byte lowest, then the second and the third, then
 // how many count.
 ghost use mathlib.Core.Path.{_≡_};
-ghost use Prim.Native.Nat.{_+_, _<_, min};
+ghost use Prim.Native.Nat.{_+_, _≤_, _<_, min};
 ghost use lib.ListN.{getD};
 ghost use mathlib.Core.Bool.{cond};
 ghost use mathlib.Core.List.{_++_};
@@ -222,6 +222,14 @@ pub fn word_at(words: &[u32; 192], row: usize, last: u32, n: u32) -> u32
     words[row + i as usize]
 }
 
+// The word for `class` in a row of five.
+pub fn class_word(words: &[u32; 192], row: usize, class: u8) -> u32
+    requires { ⌜ (row ≤ 120) × (class ≤ 4) ⌝ }
+    ensures { λ r. ⌜ r ≡ getD (now (words .entry)) (row + class) 0 ⌝ }
+{
+    words[row + class as usize]
+}
+
 // Where the row begins of what stands behind a run's length.
 fn end_row(starred: bool) -> usize
     ensures { λ r. ⌜ r ≡ cond starred 120 115 ⌝ }
@@ -231,8 +239,8 @@ fn end_row(starred: bool) -> usize
 
 // What stands behind a run's length, and a space.
 pub fn end_word(words: &[u32; 192], class: u8, starred: bool) -> u32
-    requires { ⌜ Words (now words) ⌝ }
+    requires { ⌜ Words (now words) × (class ≤ 4) ⌝ }
     ensures { λ r. ⌜ Word (mark class ++ (star starred ++ bytes " ")) r ⌝ }
 {
-    word_at(words, end_row(starred), 4, class as u32)
+    class_word(words, end_row(starred), class)
 }

@@ -21,7 +21,7 @@ returns c =
     record {
       same = λ more. rw e (omega (arith, w .0 .whole more));
       short = omega (arith, w .0 .short);
-      next = record { run = record { run = w .1 .run; piece = λ z. absurd (true≢false (sym e ∙ z)) }; small = w .1 .small };
+      next = record { run = record { run = w .1 .run; low = w .1 .low; piece = λ z. absurd (true≢false (sym e ∙ z)) }; small = w .1 .small };
     }
 
 standard-part-length-requires : tie.Need-standard-part-length-requires
@@ -39,7 +39,7 @@ returns-2 c =
     record {
       same = λ more. rw e (omega (arith, w .0 .whole more));
       short = omega (arith, w .0 .short);
-      next = record { run = record { run = suc-ne-zero 0; piece = λ z. refl }; small = w .1 };
+      next = record { run = record { run = suc-ne-zero 0; low = omega arith; piece = λ z. refl }; small = w .1 };
     }
 
 pub tally-part-spec : {M : Type 1} → statement M

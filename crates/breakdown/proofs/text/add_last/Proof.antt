@@ -15,7 +15,7 @@ flush-requires : tie.Need-flush-requires
 flush-requires c κs =
     let s = c .before .before .before .before .before .before .before .before .before .before in
     let g = c .before .before .before .before .add-run .ensures in
-    (within _ (omega (arith, s .pre .0 .few, s .pre .0 .long)) g, grown-room _ g [] (rw append-nil (s .pre .1)))
+    (within _ (omega (arith, s .pre .0 .few, s .pre .0 .long)) g, grown-room _ g [] (rw append-nil (s .pre .2)))
 
 same-length : tie.Need-same-length
 same-length c = search needs

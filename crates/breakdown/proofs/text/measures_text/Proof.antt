@@ -119,7 +119,7 @@ add-last-requires : tie.Need-add-last-requires Inv-loop μ-loop
 add-last-requires c κs =
     let s = c .before .before .before .before .before .before .before .before .before .before .before in
     let l = c .before .before .before .loop .inv in
-    (Text.ready (l .3) (s .pre .1), rw (at-end (l .2) (c .before .before .loop-test .left)) at (Text.room (l .3) (s .pre .2)))
+    (Text.ready (l .3) (s .pre .1), l .2 .run .low, rw (at-end (l .2) (c .before .before .loop-test .left)) at (Text.room (l .3) (s .pre .2)))
 
 written : tie.Need-returns-2 Inv-loop μ-loop
 written c =

@@ -81,8 +81,9 @@ text-part-requires c κs =
 add-last-requires : tie.Need-add-last-requires
 add-last-requires c κs =
     let s = c .before .before .before .before .before .before .before .before .before .before .before .before .before .before .before .before .before .before .before in
-    let w = c .before .before .before .before .before .before .text-part .ensures .0 .wrote in
-    (added-ready _ w (s .pre .1), added-room _ w _ (rw (whole (c .before .before .before .before .before .before)) at (s .pre .2)))
+    let e = c .before .before .before .before .before .before .text-part .ensures in
+    let w = e .0 .wrote in
+    (added-ready _ w (s .pre .1), e .1 .run .low, added-room _ w _ (rw (whole (c .before .before .before .before .before .before)) at (s .pre .2)))
 
 same-length-3 : tie.Need-same-length-3
 same-length-3 c = search needs

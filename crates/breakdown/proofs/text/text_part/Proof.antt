@@ -26,7 +26,7 @@ returns c =
     let w = c .before .before .before .before .sn-part .ensures in
     let e = c .before .before .before .before .before .before .before .if1 .taken in (
       record { done = w .0 .done; whole = λ more. rw e (w .0 .whole more); wrote = w .0 .wrote },
-      record { run = record { run = w .1 .run; piece = λ z. absurd (true≢false (sym e ∙ z)) }; small = w .1 .small },
+      record { run = record { run = w .1 .run; low = w .1 .low; piece = λ z. absurd (true≢false (sym e ∙ z)) }; small = w .1 .small },
     )
 
 dense-part-requires : tie.Need-dense-part-requires

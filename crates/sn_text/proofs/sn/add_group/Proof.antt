@@ -23,7 +23,7 @@ with-break-requires : tie.Need-with-break-requires
 with-break-requires c κs = search needs
 
 add-ended-requires : tie.Need-add-ended-requires
-add-ended-requires c κs = search needs
+add-ended-requires c κs = let s = c .before .before .before in (omega (arith, s .pre .0), s .pre .1, omega (arith, c .with-break .ensures .same, s .pre .4))
 
 sign-word-requires : tie.Need-sign-word-requires
 sign-word-requires c κs = search needs

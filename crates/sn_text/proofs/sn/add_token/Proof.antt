@@ -13,11 +13,11 @@ use borrow.Author.Needs.{needs}
 use Rattle.sn_text.proofs.sn.add_token.Statement.{statement}
 use Rattle.sn_text.proofs.sn.add_token.Tie as tie
 
-before-word : (c : tie.After-word-at) → Word (side 40 (c .before .before .before .args .class)) (c .word-at .result)
-before-word c = rw (c .word-at .ensures) (c .before .before .before .pre .1 .before (c .before .before .before .args .class))
+before-word : (c : tie.After-class-word) → Word (side 40 (c .before .before .before .args .class)) (c .class-word .result)
+before-word c = rw (c .class-word .ensures) (c .before .before .before .pre .1 .before (c .before .before .before .args .class) (c .before .before .before .pre .2))
 
-behind-word : (c : tie.After-word-at2) → Word (side 41 (c .before .before .before .before .before .before .before .before .before .before .before .before .args .class) ++ (32 ∷ [])) (c .word-at2 .result)
-behind-word c = rw (c .word-at2 .ensures) (c .before .before .before .before .before .before .before .before .before .before .before .before .pre .1 .behind (c .before .before .before .before .before .before .before .before .before .before .before .before .args .class))
+behind-word : (c : tie.After-class-word2) → Word (side 41 (c .before .before .before .before .before .before .before .before .before .before .before .before .args .class) ++ (32 ∷ [])) (c .class-word2 .result)
+behind-word c = rw (c .class-word2 .ensures) (c .before .before .before .before .before .before .before .before .before .before .before .before .pre .1 .behind (c .before .before .before .before .before .before .before .before .before .before .before .before .args .class) (c .before .before .before .before .before .before .before .before .before .before .before .before .pre .2))
 
 -- the token, if it is kept
 whole : (c : tie.After-add-word2) → let a = c .before .before .before .before .before .before .before .before .before .before .before .before .before .args in
@@ -26,8 +26,8 @@ whole c =
     let d = grown _ _ (c .before .before .before .before .before .add-number .ensures) (worded (behind-word (c .before)) (c .add-word2 .ensures)) in
     grown _ _ (worded (before-word (c .before .before .before .before .before .before .before .before .before .before)) (c .before .before .before .before .before .before .before .before .before .add-word .ensures)) d
 
-word-at-requires : tie.Need-word-at-requires
-word-at-requires c κs = search needs
+class-word-requires : tie.Need-class-word-requires
+class-word-requires c κs = search needs
 
 add-word-requires : tie.Need-add-word-requires
 add-word-requires c κs = (omega (arith, c .before .before .before .pre .0), before-word c .short)
@@ -38,8 +38,8 @@ add-number-requires c κs =
     let a = worded (before-word (c .before .before .before .before)) (c .before .before .before .add-word .ensures) in
     (omega (arith, s .pre .0, a .next, a .long, side-short 40 (s .args .class)), s .pre .1)
 
-word-at-requires-2 : tie.Need-word-at-requires-2
-word-at-requires-2 c κs = search needs
+class-word-requires-2 : tie.Need-class-word-requires-2
+class-word-requires-2 c κs = search needs
 
 add-word-requires-2 : tie.Need-add-word-requires-2
 add-word-requires-2 c κs =
@@ -66,10 +66,10 @@ pub add-token-spec : {M : Type 1} → statement M
 add-token-spec =
     tie.close
     (tie.spec
-    word-at-requires
+    class-word-requires
     add-word-requires
     add-number-requires
-    word-at-requires-2
+    class-word-requires-2
     add-word-requires-2
     same-length
     returns

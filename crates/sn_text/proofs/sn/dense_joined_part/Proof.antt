@@ -8,7 +8,7 @@ use borrow.Author.Needs.{needs}
 use Rattle.text_buffer.specs.Runs.{runToken}
 use Rattle.text_buffer.proofs.Added.{added-out}
 use Rattle.text_buffer.proofs.Growing.{within}
-use Rattle.sn_text.proofs.SnParts.{Writing, writing-starts, writing-ends, writing-joins, writing-room, writing-next, opened-at}
+use Rattle.sn_text.proofs.SnParts.{Writing, writing-starts, writing-ends, writing-joins, writing-room, writing-next, opened-at, opened-low}
 use Rattle.sn_text.proofs.sn.dense_joined_part.Statement.{statement}
 use Rattle.sn_text.proofs.sn.dense_joined_part.Tie as tie
 
@@ -47,7 +47,7 @@ add-group-requires c κs =
     let w = c .before .before .before .before .before .before .loop .inv in
     let o = w .opened in
     let p = c .before .before .before .before .before .before .before .before .before .before .before .pre in
-    (omega (arith, w .wrote .long, w .wrote .few, p .1 .ready .long), p .1 .ready .words, p .0, o .run, omega (arith, o .small, o .within, p .1 .tokens .few, p .1 .short))
+    (omega (arith, w .wrote .long, w .wrote .few, p .1 .ready .long), p .1 .ready .words, p .0, o .run, opened-low o, omega (arith, o .small, o .within, p .1 .tokens .few, p .1 .short))
 
 flush-requires : tie.Need-flush-requires Inv-loop μ-loop
 flush-requires c κs =

@@ -7,7 +7,8 @@ use lib.ListN.{length}
 use borrow.Author.Needs.{needs}
 use Rattle.text_buffer.proofs.Added.{added-out}
 use Rattle.text_buffer.proofs.Growing.{within}
-use Rattle.sn_text.proofs.SnParts.{none-written, Listing, listing-starts, listing-room, listing-next, first-room, others-room, listing-ends}
+use Rattle.text_buffer.proofs.Reading.{tokens-low}
+use Rattle.sn_text.proofs.SnParts.{none-written, Listing, listing-starts, listing-low, listing-room, listing-next, first-room, others-room, listing-ends}
 use Rattle.sn_text.proofs.sn.detailed_part.Statement.{statement}
 use Rattle.sn_text.proofs.sn.detailed_part.Tie as tie
 
@@ -24,7 +25,7 @@ sub-last : tie.Need-sub-last Inv-loop μ-loop
 sub-last c = search needs
 
 add-ended-requires : tie.Need-add-ended-requires Inv-loop μ-loop
-add-ended-requires c κs = let p = c .before .before .before .before .before .before .pre in (omega (arith, p .ready .long, p .ready .few), p .ready .words)
+add-ended-requires c κs = let p = c .before .before .before .before .before .before .pre in (omega (arith, p .ready .long, p .ready .few), p .ready .words, tokens-low (p .tokens))
 
 flush-requires : tie.Need-flush-requires Inv-loop μ-loop
 flush-requires c κs =
@@ -46,9 +47,10 @@ shared-slice-read-add-token-2 c = search needs
 
 add-token-requires : tie.Need-add-token-requires Inv-loop μ-loop
 add-token-requires c κs =
-    let a = c .before .before .before .before .loop .inv .1 .wrote in
+    let i = c .before .before .before .before .loop .inv .1 in
+    let a = i .wrote in
     let p = c .before .before .before .before .before .before .before .before .before .before .before .before .before .before .before .before .before .before .before .pre in
-    (omega (arith, a .long, a .few, c .before .before .before .before .before .before .before .before .before .before .before .before .add-ended .ensures .long, p .ready .long), p .ready .words)
+    (omega (arith, a .long, a .few, c .before .before .before .before .before .before .before .before .before .before .before .before .add-ended .ensures .long, p .ready .long), p .ready .words, listing-low i (p .tokens .long) (omega (arith, c .before .before .before .loop-test .taken)))
 
 flush-requires-2 : tie.Need-flush-requires-2 Inv-loop μ-loop
 flush-requires-2 c κs =

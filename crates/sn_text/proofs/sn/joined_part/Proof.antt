@@ -8,7 +8,7 @@ use borrow.Author.Needs.{needs}
 use Rattle.text_buffer.specs.Runs.{runToken}
 use Rattle.text_buffer.proofs.Added.{added-out}
 use Rattle.text_buffer.proofs.Growing.{within}
-use Rattle.sn_text.proofs.SnParts.{Writing, writing-starts, writing-ends, writing-joins, writing-room, writing-next, opened-at, no-break, adjacent, adjacent-text}
+use Rattle.sn_text.proofs.SnParts.{Writing, writing-starts, writing-ends, writing-joins, writing-room, writing-next, opened-at, opened-low, no-break, adjacent, adjacent-text}
 use Rattle.sn_text.proofs.sn.joined_part.Statement.{statement}
 use Rattle.sn_text.proofs.sn.joined_part.Tie as tie
 
@@ -28,7 +28,7 @@ add-next : tie.Need-add-next Inv-loop μ-loop
 add-next c = let a = c .run-place .ensures in omega (arith, a .within)
 
 add-ended-requires : tie.Need-add-ended-requires Inv-loop μ-loop
-add-ended-requires c κs = let w = c .before .before .before .before .loop .inv .wrote in let p = c .before .before .before .before .before .before .before .before .before .pre .1 .ready in (omega (arith, w .long, w .few, p .long), p .words)
+add-ended-requires c κs = let i = c .before .before .before .before .loop .inv in let p = c .before .before .before .before .before .before .before .before .before .pre .1 .ready in (omega (arith, i .wrote .long, i .wrote .few, p .long), p .words, opened-low (i .opened))
 
 flush-requires : tie.Need-flush-requires Inv-loop μ-loop
 flush-requires c κs =
@@ -83,7 +83,7 @@ add-group-requires c κs =
     let w = c .before .before .before .before .before .before .before .loop .inv in
     let o = w .opened in
     let p = c .before .before .before .before .before .before .before .before .before .before .before .before .pre in
-    (omega (arith, w .wrote .long, w .wrote .few, p .1 .ready .long), p .1 .ready .words, p .0, o .run, omega (arith, o .small, o .within, p .1 .tokens .few, p .1 .short))
+    (omega (arith, w .wrote .long, w .wrote .few, p .1 .ready .long), p .1 .ready .words, p .0, o .run, opened-low o, omega (arith, o .small, o .within, p .1 .tokens .few, p .1 .short))
 
 flush-requires-2 : tie.Need-flush-requires-2 Inv-loop μ-loop
 flush-requires-2 c κs =

@@ -1,6 +1,7 @@
 -- `streams::symbol::format_run_symbol` meets its contract.
 -- Assumes nothing.
-use Rattle.streams.proofs.Answers.{symbol-5, symbol-4, symbol-0}
+use native.Mathlib.Omega.{arith}
+use Rattle.streams.proofs.Answers.{number-low, symbol-5, symbol-4, symbol-0}
 use borrow.Author.Needs.{needs}
 use Rattle.streams.proofs.symbol.format_run_symbol.Statement.{statement}
 use Rattle.streams.proofs.symbol.format_run_symbol.Tie as tie
@@ -26,7 +27,12 @@ slice-aggregate-put-run : tie.Need-slice-aggregate-put-run
 slice-aggregate-put-run c = search needs
 
 put-run-requires : tie.Need-put-run-requires
-put-run-requires c κs = search needs
+put-run-requires c κs = (
+  omega arith,
+  c .before .before .before .words .ensures,
+  omega (arith, c .before .before .before .before .before .before .before .class-number .ensures, number-low (c .before .before .before .before .before .before .before .before .before .args .class)),
+  record { fits = omega (arith, c .before .before .before .before .before .run-length .ensures .number, c .before .before .before .before .if2 .left) },
+)
 
 same-length : tie.Need-same-length
 same-length c = search needs

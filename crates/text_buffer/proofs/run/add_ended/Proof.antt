@@ -11,31 +11,28 @@ use borrow.Author.Needs.{needs}
 use Rattle.text_buffer.proofs.run.add_ended.Statement.{statement}
 use Rattle.text_buffer.proofs.run.add_ended.Tie as tie
 
-mark-word : (c : tie.After-word-at) → Word (mark (c .before .before .before .before .args .run .class)) (c .word-at .result)
-mark-word c = rw (c .word-at .ensures) (c .before .before .before .before .pre .1 .marks (c .before .before .before .before .args .run .class))
+mark-word : (c : tie.After-class-word) → Word (mark (c .before .before .before .args .run .class)) (c .class-word .result)
+mark-word c = let s = c .before .before .before in rw (c .class-word .ensures) (s .pre .1 .marks (s .args .run .class) (s .pre .2))
 
 -- the mark
-front : (c : tie.After-add-word) → Grown (c .before .before .before .before .before .args .buf .now) (c .add-word .last .0) (c .before .before .before .before .before .args .k) (mark (c .before .before .before .before .before .args .run .class)) (c .add-word .result)
+front : (c : tie.After-add-word) → Grown (c .before .before .before .before .args .buf .now) (c .add-word .last .0) (c .before .before .before .before .args .k) (mark (c .before .before .before .before .args .run .class)) (c .add-word .result)
 front c = worded (mark-word (c .before)) (c .add-word .ensures)
 
-cast-word-at : tie.Need-cast-word-at
-cast-word-at c = search needs
-
-word-at-requires : tie.Need-word-at-requires
-word-at-requires c κs = search needs
+class-word-requires : tie.Need-class-word-requires
+class-word-requires c κs = search needs
 
 add-word-requires : tie.Need-add-word-requires
-add-word-requires c κs = (omega (arith, c .before .before .before .before .pre .0), mark-word c .short)
+add-word-requires c κs = (omega (arith, c .before .before .before .pre .0), mark-word c .short)
 
 add-number-requires : tie.Need-add-number-requires
-add-number-requires c κs = let s = c .before .before .before .before .before .before .before .before in let a = front (c .before .before .before) in (omega (arith, s .pre .0, a .next, a .long, mark-short (s .args .run .class)), s .pre .1)
+add-number-requires c κs = let s = c .before .before .before .before .before .before .before in let a = front (c .before .before .before) in (omega (arith, s .pre .0, a .next, a .long, mark-short (s .args .run .class)), s .pre .1)
 
 end-word-requires : tie.Need-end-word-requires
 end-word-requires c κs = search needs
 
 add-word-requires-2 : tie.Need-add-word-requires-2
 add-word-requires-2 c κs =
-    let s = c .before .before .before .before .before .before .before .before .before .before .before .before .before in
+    let s = c .before .before .before .before .before .before .before .before .before .before .before .before in
     let a = front (c .before .before .before .before .before .before .before .before) in
     let b = c .before .before .before .before .add-number .ensures in
     (omega (arith, s .pre .0, a .next, a .long, mark-short (s .args .run .class), b .next, b .long, at-most 20 (s .args .run .length) (omega arith) (omega arith)), c .end-word .ensures .short)
@@ -45,7 +42,7 @@ same-length c = search needs
 
 returns : tie.Need-returns
 returns c =
-    let r = c .before .before .before .before .before .before .before .before .before .before .before .before .before .before .before .before .args .run in
+    let r = c .before .before .before .before .before .before .before .before .before .before .before .before .before .before .before .args .run in
     let e = worded (c .before .before .before .end-word .ensures) (c .before .before .add-word2 .ensures) in
     rw (ended-run (r .class) (r .length) (r .starred)) at (grown _ _ (front (c .before .before .before .before .before .before .before .before .before .before .before)) (grown _ _ (c .before .before .before .before .before .before .before .add-number .ensures) e))
 
@@ -53,8 +50,7 @@ pub add-ended-spec : {M : Type 1} → statement M
 add-ended-spec =
     tie.close
     (tie.spec
-    cast-word-at
-    word-at-requires
+    class-word-requires
     add-word-requires
     add-number-requires
     end-word-requires

@@ -12,7 +12,7 @@ add-run-requires c κs = search needs
 put-buffer-requires : tie.Need-put-buffer-requires
 put-buffer-requires c κs =
     let g = c .before .before .before .before .add-run .ensures in
-    (within _ (omega arith) g, rw (g .front) (c .before .before .before .before .before .before .before .before .pre .2))
+    (within _ (omega arith) g, rw (g .front) (c .before .before .before .before .before .before .before .before .pre .3))
 
 same-length : tie.Need-same-length
 same-length c = search needs
