@@ -97,45 +97,29 @@ behind-row (x ∷ row) more (suc i) k e = behind-row row more i k (omega arith)
 number-at : (n : ℕ) → n < 100 → Word (digits n) (getD table n 0)
 number-at n h = rw (at numberWord (byClass ++ (signs ++ (parts ++ []))) 0 100 n h, zero-add n) (number-right n h)
 
+-- what holds of the classes 0 to 4
+by-class : (P : ℕ → Type 0) → P 0 → P 1 → P 2 → P 3 → P 4 → (c : ℕ) → c ≤ 4 → P c
+by-class P a b d e f zero h = a
+by-class P a b d e f (suc zero) h = b
+by-class P a b d e f (suc (suc zero)) h = d
+by-class P a b d e f (suc (suc (suc zero))) h = e
+by-class P a b d e f (suc (suc (suc (suc zero)))) h = f
+by-class P a b d e f (suc (suc (suc (suc (suc c))))) h = absurd (omega arith)
+
 mark-at : (c : ℕ) → c ≤ 4 → Word (mark c) (getD table (100 + c) 0)
-mark-at zero h = record { text = refl; short = omega arith }
-mark-at (suc zero) h = record { text = refl; short = omega arith }
-mark-at (suc (suc zero)) h = record { text = refl; short = omega arith }
-mark-at (suc (suc (suc zero))) h = record { text = refl; short = omega arith }
-mark-at (suc (suc (suc (suc zero)))) h = record { text = refl; short = omega arith }
-mark-at (suc (suc (suc (suc (suc c))))) h = absurd (omega arith)
+mark-at = by-class (λ c. Word (mark c) (getD table (100 + c) 0)) (record { text = refl; short = omega arith }) (record { text = refl; short = omega arith }) (record { text = refl; short = omega arith }) (record { text = refl; short = omega arith }) (record { text = refl; short = omega arith })
 
 before-at : (c : ℕ) → c ≤ 4 → Word (side 40 c) (getD table (105 + c) 0)
-before-at zero h = record { text = refl; short = omega arith }
-before-at (suc zero) h = record { text = refl; short = omega arith }
-before-at (suc (suc zero)) h = record { text = refl; short = omega arith }
-before-at (suc (suc (suc zero))) h = record { text = refl; short = omega arith }
-before-at (suc (suc (suc (suc zero)))) h = record { text = refl; short = omega arith }
-before-at (suc (suc (suc (suc (suc c))))) h = absurd (omega arith)
+before-at = by-class (λ c. Word (side 40 c) (getD table (105 + c) 0)) (record { text = refl; short = omega arith }) (record { text = refl; short = omega arith }) (record { text = refl; short = omega arith }) (record { text = refl; short = omega arith }) (record { text = refl; short = omega arith })
 
 behind-at : (c : ℕ) → c ≤ 4 → Word (side 41 c ++ bytes " ") (getD table (110 + c) 0)
-behind-at zero h = record { text = refl; short = omega arith }
-behind-at (suc zero) h = record { text = refl; short = omega arith }
-behind-at (suc (suc zero)) h = record { text = refl; short = omega arith }
-behind-at (suc (suc (suc zero))) h = record { text = refl; short = omega arith }
-behind-at (suc (suc (suc (suc zero)))) h = record { text = refl; short = omega arith }
-behind-at (suc (suc (suc (suc (suc c))))) h = absurd (omega arith)
+behind-at = by-class (λ c. Word (side 41 c ++ bytes " ") (getD table (110 + c) 0)) (record { text = refl; short = omega arith }) (record { text = refl; short = omega arith }) (record { text = refl; short = omega arith }) (record { text = refl; short = omega arith }) (record { text = refl; short = omega arith })
 
 ended-at : (c : ℕ) → c ≤ 4 → Word (mark c ++ bytes " ") (getD table (115 + c) 0)
-ended-at zero h = record { text = refl; short = omega arith }
-ended-at (suc zero) h = record { text = refl; short = omega arith }
-ended-at (suc (suc zero)) h = record { text = refl; short = omega arith }
-ended-at (suc (suc (suc zero))) h = record { text = refl; short = omega arith }
-ended-at (suc (suc (suc (suc zero)))) h = record { text = refl; short = omega arith }
-ended-at (suc (suc (suc (suc (suc c))))) h = absurd (omega arith)
+ended-at = by-class (λ c. Word (mark c ++ bytes " ") (getD table (115 + c) 0)) (record { text = refl; short = omega arith }) (record { text = refl; short = omega arith }) (record { text = refl; short = omega arith }) (record { text = refl; short = omega arith }) (record { text = refl; short = omega arith })
 
 starred-at : (c : ℕ) → c ≤ 4 → Word (mark c ++ bytes "* ") (getD table (120 + c) 0)
-starred-at zero h = record { text = refl; short = omega arith }
-starred-at (suc zero) h = record { text = refl; short = omega arith }
-starred-at (suc (suc zero)) h = record { text = refl; short = omega arith }
-starred-at (suc (suc (suc zero))) h = record { text = refl; short = omega arith }
-starred-at (suc (suc (suc (suc zero)))) h = record { text = refl; short = omega arith }
-starred-at (suc (suc (suc (suc (suc c))))) h = absurd (omega arith)
+starred-at = by-class (λ c. Word (mark c ++ bytes "* ") (getD table (120 + c) 0)) (record { text = refl; short = omega arith }) (record { text = refl; short = omega arith }) (record { text = refl; short = omega arith }) (record { text = refl; short = omega arith }) (record { text = refl; short = omega arith })
 
 sign-at : (g : ℕ) → Word (word (signOf 32 g) ++ bytes " ") (getD table (125 + min g 33) 0)
 sign-at g =
