@@ -19,6 +19,7 @@ use Rattle.text_buffer.specs.Runs.{runToken}
 use Rattle.breakdown.specs.declared.form.Form.{Form}
 use Rattle.text_buffer.specs.declared.run.Run.{Run}
 
+-- a form by what `Form` has: SN or standard, join limit, gaps as signs
 abbrev pub formWith : Bool → ℕ → Bool → Form
 formWith s k b = record { sn = s; limit = k; signs = b }
 

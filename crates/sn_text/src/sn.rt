@@ -66,7 +66,7 @@ struct RunPlace {
     place: usize,
 }
 
-// The same by a branch, which goes the same way again and again in most charts; the run itself is read where it is needed.
+// Found by a branch, which goes the same way again and again in most charts; the run itself is read where it is needed.
 fn run_place(cs: &[u8], ns: &[u32], i: usize) -> RunPlace
     requires { ⌜ TokenAt (now cs) (now ns) i ⌝ }
     ensures { λ r. ⌜ RunAt (now (cs .entry)) (now (ns .entry)) i (r .gap) (getD (now (cs .entry)) (r .place) 0) (getD (now (ns .entry)) (r .place) 0) (r .place + 1) ⌝ }

@@ -71,8 +71,8 @@ part-right g =
 abbrev numbers : List ℕ
 numbers = map numberWord (upFrom 0 100)
 
-abbrev byClass : List ℕ
-byClass = 0 ∷ 0 ∷ 16777342 ∷ 16777308 ∷ 16777277 ∷ 16777256 ∷ 0 ∷ 16777342 ∷ 16777308 ∷ 16777277 ∷ 33562665 ∷ 16777248 ∷ 33562750 ∷ 33562716 ∷ 33562685 ∷ 16777248 ∷ 16777248 ∷ 33562750 ∷ 33562716 ∷ 33562685 ∷ 33562666 ∷ 33562666 ∷ 52439678 ∷ 52439644 ∷ 52439613 ∷ []
+abbrev classRows : List ℕ
+classRows = 0 ∷ 0 ∷ 16777342 ∷ 16777308 ∷ 16777277 ∷ 16777256 ∷ 0 ∷ 16777342 ∷ 16777308 ∷ 16777277 ∷ 33562665 ∷ 16777248 ∷ 33562750 ∷ 33562716 ∷ 33562685 ∷ 16777248 ∷ 16777248 ∷ 33562750 ∷ 33562716 ∷ 33562685 ∷ 33562666 ∷ 33562666 ∷ 52439678 ∷ 52439644 ∷ 52439613 ∷ []
 
 abbrev signs : List ℕ
 signs = map signWord (upFrom 0 34)
@@ -81,7 +81,7 @@ abbrev parts : List ℕ
 parts = map partWord (upFrom 0 33)
 
 abbrev table : List ℕ
-table = numbers ++ (byClass ++ (signs ++ (parts ++ [])))
+table = numbers ++ (classRows ++ (signs ++ (parts ++ [])))
 
 -- a place within a row, and one behind it
 at : (f : ℕ → ℕ) (more : List ℕ) (i n k : ℕ) → k < n → getD (map f (upFrom i n) ++ more) k 0 ≡ f (i + k)
@@ -95,7 +95,7 @@ behind-row (x ∷ row) more zero k e = absurd (omega arith)
 behind-row (x ∷ row) more (suc i) k e = behind-row row more i k (omega arith)
 
 number-at : (n : ℕ) → n < 100 → Word (digits n) (getD table n 0)
-number-at n h = rw (at numberWord (byClass ++ (signs ++ (parts ++ []))) 0 100 n h, zero-add n) (number-right n h)
+number-at n h = rw (at numberWord (classRows ++ (signs ++ (parts ++ []))) 0 100 n h, zero-add n) (number-right n h)
 
 -- what holds of the classes 0 to 4
 by-class : (P : ℕ → Type 0) → P 0 → P 1 → P 2 → P 3 → P 4 → (c : ℕ) → c ≤ 4 → P c
@@ -124,13 +124,13 @@ starred-at = by-class (λ c. Word (mark c ++ bytes "* ") (getD table (120 + c) 0
 sign-at : (g : ℕ) → Word (word (signOf 32 g) ++ bytes " ") (getD table (125 + min g 33) 0)
 sign-at g =
     let k = min g 33 in
-    rw (behind-row numbers (byClass ++ (signs ++ (parts ++ []))) (125 + k) (25 + k) (omega arith), behind-row byClass (signs ++ (parts ++ [])) (25 + k) k (omega arith), at signWord (parts ++ []) 0 34 k (omega arith), zero-add k)
+    rw (behind-row numbers (classRows ++ (signs ++ (parts ++ []))) (125 + k) (25 + k) (omega arith), behind-row classRows (signs ++ (parts ++ [])) (25 + k) k (omega arith), at signWord (parts ++ []) 0 34 k (omega arith), zero-add k)
     (sign-right g)
 
 part-at : (g : ℕ) → Word (part (signOf 31 g)) (getD table (159 + min g 32) 0)
 part-at g =
     let k = min g 32 in
-    rw (behind-row numbers (byClass ++ (signs ++ (parts ++ []))) (159 + k) (59 + k) (omega arith), behind-row byClass (signs ++ (parts ++ [])) (59 + k) (34 + k) (omega arith), behind-row signs (parts ++ []) (34 + k) k (omega arith), at partWord [] 0 33 k (omega arith), zero-add k)
+    rw (behind-row numbers (classRows ++ (signs ++ (parts ++ []))) (159 + k) (59 + k) (omega arith), behind-row classRows (signs ++ (parts ++ [])) (59 + k) (34 + k) (omega arith), behind-row signs (parts ++ []) (34 + k) k (omega arith), at partWord [] 0 33 k (omega arith), zero-add k)
     (part-right g)
 
 pub table-right : Words table
