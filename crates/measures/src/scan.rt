@@ -101,11 +101,15 @@ fn bounds_of(class: u8) -> Bounds
     }
 }
 
-// On from `i` over measures of `class`, eight at a time.
-fn run_on(m: &[u32], i: usize, class: u8) -> usize
+// On from `i` over measures of `class`, eight at a time. In a long chart nobody foresees where a run ends, and a branch that goes wrong costs more
+// than the steps it saves: there only a run that has 32 measures already is skipped.
+fn run_on(m: &[u32], i: usize, class: u8, so_far: u32) -> usize
     requires { ⌜ (i ≤ length (now m)) × (class ≤ 4) ⌝ }
     ensures { λ r. ⌜ OfClass (now (m .entry)) i class r ⌝ }
 {
+    if (m.len() > 65536) & (so_far < 32) {
+        return i;
+    }
     let b = bounds_of(class);
     skip(m, i, b.lo, b.more)
 }
@@ -177,7 +181,7 @@ fn runs_into(m: &[u32], cs: &mut [u8], ns: &mut [u32], table: &[u8; 33], most: u
             i -= p.length as usize;
             return Taken { tokens: k, next: i };
         }
-        let j = run_on(m, i, p.class);
+        let j = run_on(m, i, p.class, p.length);
         p.length += (j - i) as u32;
         ns[k] = p.length;
         if m.len() - j > 16 {

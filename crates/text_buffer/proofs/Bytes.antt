@@ -56,6 +56,13 @@ star-short false = omega arith
 pub run-short : (c n : ℕ) (s : Bool) → n < 2 ^ 64 → length (word (run c n s)) ≤ 23
 run-short c n s h = simp length-append (omega (arith, mark-short c, star-short s, at-most 20 n (omega arith) (omega arith)))
 
+-- a number of measures of the domain
+pub measures-short : (n : ℕ) → n ≤ 1048576 → length (digits n) ≤ 7
+measures-short n h = at-most 7 n (omega arith) (omega arith)
+
+pub measured-run : (c n : ℕ) (s : Bool) → n ≤ 1048576 → length (word (run c n s)) ≤ 10
+measured-run c n s h = simp length-append (omega (arith, mark-short c, star-short s, measures-short n h))
+
 -- a run and a space, from its first byte to its last
 pub ended-run : (c n : ℕ) (s : Bool) → mark c ++ (digits n ++ (mark c ++ (star s ++ bytes " "))) ≡ word (run c n s) ++ bytes " "
 ended-run c n s = sym (simp append-assoc)

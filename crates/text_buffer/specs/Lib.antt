@@ -4,3 +4,4 @@ pub mod Buffer
 pub mod Runs
 pub mod Behind
 pub mod Parts
+pub mod Three

@@ -3,4 +3,5 @@ pub mod buffer;
 pub mod gap;
 pub mod put;
 pub mod run;
+pub mod three;
 pub mod words;
