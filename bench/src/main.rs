@@ -100,24 +100,33 @@ fn times(works: &mut [Box<dyn FnMut() + '_>]) -> Vec<(f64, f64)> {
         .collect()
 }
 
-fn row(name: &str, m: &[u32]) {
-    let (tokens, bytes) = same(m);
-    let wide: Vec<usize> = m.iter().map(|&d| d as usize).collect();
+/// Charts of one length, one after the other.
+fn row(name: &str, charts: &[Vec<u32>]) {
+    let due: Vec<(usize, usize)> = charts.iter().map(|m| same(m)).collect();
+    let wide: Vec<Vec<usize>> = charts.iter().map(|m| m.iter().map(|&d| d as usize).collect()).collect();
     let mut scratch = Vec::new();
-    let mut roomy = Lent::roomy(m.len());
-    let mut tight = Lent::new(tokens, bytes);
+    let mut roomy = Lent::roomy(charts[0].len());
+    let mut tight: Vec<Lent> = due.iter().map(|&(tokens, bytes)| Lent::new(tokens, bytes)).collect();
     let t = times(&mut [
         Box::new(|| {
-            black_box(streams::compute_stream_outputs_with_scratch(black_box(&wide), &mut scratch));
+            for m in &wide {
+                black_box(streams::compute_stream_outputs_with_scratch(black_box(m), &mut scratch));
+            }
         }),
         Box::new(|| {
-            black_box(ours::pass(black_box(m), &mut roomy));
+            for m in charts {
+                black_box(ours::pass(black_box(m), &mut roomy));
+            }
         }),
         Box::new(|| {
-            black_box(ours::pass(black_box(m), &mut tight));
+            for (m, lent) in charts.iter().zip(&mut tight) {
+                black_box(ours::pass(black_box(m), lent));
+            }
         }),
     ]);
-    let ns = |x: f64| x / m.len() as f64;
+    let tokens: usize = due.iter().map(|d| d.0).sum();
+    let measures: usize = charts.iter().map(Vec::len).sum();
+    let ns = |x: f64| x / measures as f64;
     let (rust, roomy, tight) = (t[0], t[1], t[2]);
     println!(
         "| {name} | {tokens} | {:.2} ({:.2}) | {:.2} ({:.2}) | **{:.2}** ({:.2}) | {:.2} ({:.2}) | **{:.2}** ({:.2}) |",
@@ -134,9 +143,9 @@ fn main() {
     println!("| chart | tokens | Rust | roomy slices | faster | tight slices | faster |");
     println!("|---|---|---|---|---|---|---|");
     let only = std::env::args().nth(1).unwrap_or_default();
-    for (name, m) in loads::all() {
+    for (name, charts) in loads::all() {
         if name.contains(&only) {
-            row(name, &m);
+            row(name, &charts);
         }
     }
 }

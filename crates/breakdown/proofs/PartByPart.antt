@@ -14,15 +14,12 @@ use borrow.Author.Tests.{eqb-true}
 use Rattle.number.proofs.Split.{split}
 use Rattle.rules.specs.Chart.{classOf, classes, Token, token, class, runsFrom, runs}
 use Rattle.rules.specs.Calls.{stepAt}
-use Rattle.rules.specs.Reduced.{run}
-use Rattle.rules.specs.Texts.{word}
 use Rattle.rules.specs.declared.ViewToken.{ViewToken}
-use Rattle.rules.proofs.Steps.{drop-run}
 use Rattle.measures.specs.Scan.{paired, Ahead, FirstTokens}
 use Rattle.text_buffer.specs.Behind.{Behind}
 use Rattle.standard_text.specs.Standard.{glue, standardFrom, standardPart}
 use Rattle.text_buffer.specs.Parts.{Tokens, TokensBehind, PartWritten}
-use Rattle.sn_text.specs.SnParts.{snOf}
+use Rattle.sn_text.proofs.SnThree.{last-shown}
 use Rattle.text_buffer.specs.Runs.{runText}
 use Rattle.breakdown.specs.Forms.{textOf, openText, partText, Open, OpenNext, FirstRun, ActiveMeasures}
 use Rattle.text_buffer.specs.declared.buffer.Left.{Left}
@@ -58,11 +55,7 @@ module _ (f : Form) (c n : ℕ) (h : (c ≢ 0) × (c ≤ 4)) (l : n < 4294967296
 -- ---- the last run or piece
 
 pub last-text : (f : Form) (r : Run) → Open f r → openText f r [] ≡ runText r
-last-text f r o = split (f .sn) (λ e. rw e (sn-last (f .limit) (r .class) (r .length) (r .starred) (o .run))) (λ e. rw (e, o .piece e) (simp append-nil))
-  where
-    sn-last : (k c n : ℕ) (s : Bool) → c ≢ 0 → snOf k (token c n s ∷ []) ≡ word (run c n s)
-    sn-last k zero n s h = absurd (h refl)
-    sn-last k (suc c) n s h = rw (drop-run (token (suc c) n s) [] h) (append-nil _)
+last-text f r o = split (f .sn) (λ e. rw e (last-shown (f .limit) r (o .run))) (λ e. rw (e, o .piece e) (simp append-nil))
 
 -- ---- a part of a standard text, whose open piece is a run of class 1
 
@@ -244,7 +237,7 @@ module _ {cs ns : List ℕ} (t : Tokens cs ns) where
   backN = take (length ns - 1) (drop 1 ns)
 
   module _ (h : length cs ≢ 0) where
-    first-here : paired cs ns ≡ token (getD cs 0 0) (getD ns 0 0) false ∷ paired backC backN
+    pub first-here : paired cs ns ≡ token (getD cs 0 0) (getD ns 0 0) false ∷ paired backC backN
     first-here = go cs ns h (t .long)
       where
         go : (cs ns : List ℕ) → length cs ≢ 0 → length cs ≡ length ns

@@ -101,13 +101,13 @@ fn bounds_of(class: u8) -> Bounds
     }
 }
 
-// On from `i` over measures of `class`, eight at a time. In a long chart nobody foresees where a run ends, and a branch that goes wrong costs more
-// than the steps it saves: there only a run that has 32 measures already is skipped.
+// On from `i` over measures of `class`, eight at a time. In a long chart the processor cannot foresee where a run ends, and a branch that goes wrong
+// costs more than the steps that it saves: there only a run that has 64 measures already is skipped.
 fn run_on(m: &[u32], i: usize, class: u8, so_far: u32) -> usize
     requires { ⌜ (i ≤ length (now m)) × (class ≤ 4) ⌝ }
     ensures { λ r. ⌜ OfClass (now (m .entry)) i class r ⌝ }
 {
-    if (m.len() > 65536) & (so_far < 32) {
+    if (m.len() > 65536) & (so_far < 64) {
         return i;
     }
     let b = bounds_of(class);

@@ -90,7 +90,7 @@ shown-before k ts us h = rw map-append (spaced-before (map (item (breakItem k)) 
 pub between : (m g k : ℕ) → (ltb m g && leb g k) ≡ true → (m < g) × (g ≤ k)
 between m g k e = let both = and-eq-true-iff _ _ .0 e in (ltb-true m g (both .0), leb-true g k (both .1))
 
-joins-over : (k c g : ℕ) {d : ℕ} → d ≢ 0 → d ≡ joinClass k c g → (1 ≤ g) × (g ≤ k) × (d ≡ c)
+pub joins-over : (k c g : ℕ) {d : ℕ} → d ≢ 0 → d ≡ joinClass k c g → (1 ≤ g) × (g ≤ k) × (d ≡ c)
 joins-over k c g r e =
     split (ltb 0 g && leb g k)
     (λ l. let near = between 0 g k l in (near .0, near .1, rw l at e))
@@ -196,7 +196,7 @@ module _ {k : ℕ} {t : Token} {cs ns done : List ℕ} {u : Token} {i : ℕ} (o 
   opened-whole h more = o .whole more ∙ rw (none-left cs ns i h)
 
   module _ {g d n next : ℕ} (a : RunAt cs ns i g d n next) where
-    on-text : (more : List Token)
+    pub on-text : (more : List Token)
         → snPart k t cs ns more ≡ done ++ snOf k (u ∷ (breakTokens g ++ (token d n false ∷ (drop next (paired cs ns) ++ more))))
     on-text more = o .whole more ∙ rw (a .rest, append-assoc)
 
@@ -227,7 +227,7 @@ module _ {k : ℕ} {t : Token} {cs ns done : List ℕ} {u : Token} {i : ℕ} (o 
 
 -- ---- a run and a break over which it does not join
 
-run-item : (f : ℕ → Item) (c n : ℕ) (s : Bool) → c ≢ 0 → item f (token c n s) ≡ run c n s
+pub run-item : (f : ℕ → Item) (c n : ℕ) (s : Bool) → c ≢ 0 → item f (token c n s) ≡ run c n s
 run-item f zero n s r = absurd (r refl)
 run-item f (suc c) n s r = refl
 

@@ -1,2 +1,3 @@
 pub mod Sn
 pub mod SnParts
+pub mod SnThree

@@ -1,2 +1,3 @@
 // SN texts, part by part, written and measured from tokens.
 pub mod sn;
+pub mod three;

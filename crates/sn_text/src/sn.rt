@@ -61,13 +61,13 @@ fn next_run(cs: &[u8], ns: &[u32], i: usize) -> NextRun
 }
 
 // Where the next run stands, and the break before it (0: none).
-struct RunPlace {
-    gap: u32,
-    place: usize,
+pub struct RunPlace {
+    pub gap: u32,
+    pub place: usize,
 }
 
 // Found by a branch, which goes the same way again and again in most charts; the run itself is read where it is needed.
-fn run_place(cs: &[u8], ns: &[u32], i: usize) -> RunPlace
+pub fn run_place(cs: &[u8], ns: &[u32], i: usize) -> RunPlace
     requires { ⌜ TokenAt (now cs) (now ns) i ⌝ }
     ensures { λ r. ⌜ RunAt (now (cs .entry)) (now (ns .entry)) i (r .gap) (getD (now (cs .entry)) (r .place) 0) (getD (now (ns .entry)) (r .place) 0) (r .place + 1) ⌝ }
 {
@@ -81,7 +81,7 @@ fn run_place(cs: &[u8], ns: &[u32], i: usize) -> RunPlace
 }
 
 // The class of a run that joins one of `class` over a break of `gap`: 0, which no run has, if none does.
-fn join_class(limit: u32, class: u8, gap: u32) -> u8
+pub fn join_class(limit: u32, class: u8, gap: u32) -> u8
     ensures { λ r. ⌜ r ≡ joinClass limit class gap ⌝ }
 {
     let near = (0 < gap) & (gap <= limit);
@@ -106,7 +106,14 @@ fn with_break(limit: u32, run: Run, gap: u32) -> Run
 }
 
 // A run with a break behind it over which no run joins, and the sign and a space of a break that is longer than the limit.
-fn add_group(buf: &mut [u8], k: usize, limit: u32, run: Run, gap: u32, words: &[u32; 192]) -> usize
+pub fn add_group(
+    buf: &mut [u8],
+    k: usize,
+    limit: u32,
+    run: Run,
+    gap: u32,
+    words: &[u32; 192],
+) -> usize
     requires { ⌜ (k + 29 ≤ length (now buf)) × Words (now words) × (1 ≤ limit) × (run .class ≢ 0) × (run .class ≤ 4) × (run .length + gap < 2 ^ 64) ⌝ }
     ensures { λ r. ⌜ Grown (now (buf .entry)) (now (buf .exit)) k (ended limit (shown limit (runToken run ∷ breakTokens gap))) r ⌝ }
 {
@@ -187,7 +194,7 @@ fn dense_joined_part(
 }
 
 // A run or a break, by its length, and a space; nothing for a break of 1.
-fn add_token(buf: &mut [u8], k: usize, class: u8, n: u32, words: &[u32; 192]) -> usize
+pub fn add_token(buf: &mut [u8], k: usize, class: u8, n: u32, words: &[u32; 192]) -> usize
     requires { ⌜ (k + 26 ≤ length (now buf)) × Words (now words) × (class ≤ 4) ⌝ }
     ensures { λ r. ⌜ Grown (now (buf .entry)) (now (buf .exit)) k (ended 0 (dropOnes (token class n false ∷ []))) r ⌝ }
 {

@@ -35,14 +35,14 @@ abbrev shownText : Bool → List Token → List ℕ
 shownText b l = strung part (map (item (gapItem b)) l)
 
 module _ (b : Bool) (k n : ℕ) (s : Bool) where
-  run-text : (c m : ℕ) (ts : List Token) → c ≢ 0 → standardFrom b k n s (token c m false ∷ ts) ≡ standardFrom b k (n + m) s ts
+  pub run-text : (c m : ℕ) (ts : List Token) → c ≢ 0 → standardFrom b k n s (token c m false ∷ ts) ≡ standardFrom b k (n + m) s ts
   run-text c m ts h = ap (shownText b) (after-run k n s c m ts h)
 
   module _ (g c m : ℕ) (ts : List Token) (h : c ≢ 0) where
-    over-text : g ≤ k → standardFrom b k n s (token 0 g false ∷ token c m false ∷ ts) ≡ standardFrom b k (n + g) true (token c m false ∷ ts)
+    pub over-text : g ≤ k → standardFrom b k n s (token 0 g false ∷ token c m false ∷ ts) ≡ standardFrom b k (n + g) true (token c m false ∷ ts)
     over-text l = ap (shownText b) (after-over k n s g (token c m false ∷ ts) h l)
 
-    apart-text : k < g
+    pub apart-text : k < g
         → standardFrom b k n s (token 0 g false ∷ token c m false ∷ ts) ≡ doneText b n s g ++ standardFrom b k 0 false (token c m false ∷ ts)
     apart-text l =
         ap (shownText b) (after-apart k n s g (token c m false ∷ ts) h l ∙ ap (λ (r : List Token). token 1 n s ∷ token 0 g false ∷ r) (none-before k c m ts h))
@@ -70,7 +70,7 @@ pub standing-first : {cs ns : List ℕ} → TokensBehind 1 cs ns → Standing cs
 standing-first h = record { long = h .long; few = h .few; within = omega arith; last = 1; behind = h .behind }
 
 module _ {cs ns : List ℕ} {i : ℕ} (p : Standing cs ns i) (l : i < length cs) where
-  token-next : drop i (paired cs ns) ≡ token (getD cs i 0) (getD ns i 0) false ∷ drop (i + 1) (paired cs ns)
+  pub token-next : drop i (paired cs ns) ≡ token (getD cs i 0) (getD ns i 0) false ∷ drop (i + 1) (paired cs ns)
   token-next = slices-next cs ns i (p .long) l ∙ rw add-one
 
   pub standing-next : Standing cs ns (i + 1)

@@ -1,3 +1,4 @@
 pub mod Standard
 pub mod Filled
 pub mod StandardParts
+pub mod StandardThree

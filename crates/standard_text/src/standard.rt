@@ -73,7 +73,7 @@ fn add_gap(buf: &mut [u8], k: usize, signs: bool, n: u32, words: &[u32; 192]) ->
 }
 
 // A piece and the gap behind it.
-fn add_piece(
+pub fn add_piece(
     buf: &mut [u8],
     k: usize,
     n: u64,

@@ -4,3 +4,4 @@ pub mod Levels
 pub mod EndToEnd
 pub mod Pass
 pub mod Same
+pub mod FewTokens

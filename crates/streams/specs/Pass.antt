@@ -2,7 +2,7 @@
 -- Assumes nothing.
 use Prim.Native.Nat.{ℕ, _≤_}
 use mathlib.Core.Path.{_≡_}
-use mathlib.Core.Logic.{_⊎_}
+use mathlib.Core.Logic.{_≢_, _⊎_}
 use mathlib.Core.List.{List}
 use lib.ListN.{length, getD, replicate}
 use Rattle.number.specs.Questions.{filled}
@@ -12,6 +12,7 @@ use Rattle.rules.specs.declared.Kind.{Kind}
 use Rattle.rules.specs.declared.Kind.the-variants.{Sn as sn}
 use Rattle.rules.specs.declared.BreakdownMode.the-variants as Mode
 use Rattle.measures.specs.Scan.{paired}
+use Rattle.text_buffer.specs.Words.{Words}
 use Rattle.streams.specs.Promises.{passNo}
 use Rattle.streams.specs.declared.StreamOutputs.{StreamOutputs}
 
@@ -31,6 +32,16 @@ pub record Tokened (m cs ns old : List ℕ) : Type 0 where
   pub long : length cs ≡ length ns
   pub tokens : paired cs ns ≡ tokens (classes m)
   pub room : length (endToEnd passKinds m) ≤ length old
+
+-- some tokens, but few, the table of words, and three buffers in which each text has room
+pub record FewTokens (m cs ns table a b d old : List ℕ) : Type 0 where
+  pub tokened : Tokened m cs ns old
+  pub some : length cs ≢ 0
+  pub few : length cs ≤ 88
+  pub words : Words table
+  pub first : 1024 ≤ length a
+  pub second : 1024 ≤ length b
+  pub third : 1024 ≤ length d
 
 -- the kind of text i of the pass
 abbrev pub passKind : ℕ → Kind

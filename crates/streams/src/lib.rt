@@ -4,6 +4,7 @@ use rules::StreamCounts;
 pub mod kind;
 pub mod label;
 pub mod outputs;
+pub mod short;
 pub mod single;
 pub mod symbol;
 pub mod text;

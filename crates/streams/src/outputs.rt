@@ -1,5 +1,6 @@
 // The pass: tokens, counts and six texts of a chart.
 use crate::StreamOutputs;
+use crate::short::put_short;
 use breakdown::form::Form;
 use breakdown::form::sn_form;
 use breakdown::form::standard_form;
@@ -108,12 +109,15 @@ fn put_six(
     lengths
 }
 
-// .. with a table and a buffer of its own.
+// .. with a table and a buffer of its own, or, of few tokens, three at a time.
 fn put_texts(m: &[u32], classes: &[u8], lengths: &[u32], dense: bool, out: &mut [u8]) -> [usize; 6]
     requires { ⌜ Tokened (now m) (now classes) (now lengths) (now out) ⌝ }
     ensures { λ r. ⌜ SixTexts (now (m .entry)) (now (out .entry)) (now (out .exit)) r ⌝ }
 {
     let words = words();
+    if classes.len() != 0 && classes.len() <= 88 {
+        return put_short(m, classes, lengths, &words, out);
+    }
     let mut buf = [0u8; 512];
     put_six(m, classes, lengths, dense, &words, &mut buf, out)
 }

@@ -4,3 +4,4 @@ pub mod Table
 pub mod Added
 pub mod Reached
 pub mod Reading
+pub mod ThreeTexts
