@@ -165,6 +165,11 @@ pub no-break : {cs ns : List ℕ} {i g d n next : ℕ} → RunAt cs ns i g d n n
 no-break {g = zero} a e = refl
 no-break {g = suc g} a e = absurd (omega (arith, a .on))
 
+-- .. and elsewhere: a break
+pub some-break : {cs ns : List ℕ} {i g d n next : ℕ} → RunAt cs ns i g d n next → next ≢ i + 1 → 1 ≤ g
+some-break {g = zero} a e = absurd (e (omega (arith, a .on)))
+some-break {g = suc g} a e = omega arith
+
 -- no run joins where there is no break
 pub adjacent : (k c : ℕ) {cs ns : List ℕ} {i g d n next : ℕ} → RunAt cs ns i g d n next → g ≡ 0 → d ≢ joinClass k c g
 adjacent k c a z e = a .run (e ∙ rw z refl)

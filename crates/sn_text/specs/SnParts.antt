@@ -87,7 +87,7 @@ pub record RunAt (cs ns : List ℕ) (i g c n next : ℕ) : Type 0 where
   pub rest : drop i (paired cs ns) ≡ breakTokens g ++ (token c n false ∷ drop next (paired cs ns))
   pub run : c ≢ 0
   pub behind : Behind c (drop next (paired cs ns))
-  pub on : i + length (breakTokens g) < next
+  pub on : next ≡ i + length (breakTokens g) + 1
   pub within : next ≤ length cs
 
 -- a run t and a break of g over which no run joins are shown as a run u, and the break if it is a long one

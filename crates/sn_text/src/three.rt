@@ -8,7 +8,7 @@ use text_buffer::run::add_ended;
 use text_buffer::run::add_run;
 use text_buffer::run::open_run;
 use text_buffer::three::Three;
-ghost use Prim.Native.Nat.{_+_, _^_, _≤_, _<_};
+ghost use Prim.Native.Nat.{ℕ, _+_, _^_, _≤_, _<_};
 ghost use mathlib.Core.Logic.{_≢_};
 ghost use mathlib.Core.List.{_∷_};
 ghost use lib.ListN.{length};
@@ -32,7 +32,18 @@ struct Turns {
     simplified: Turn,
 }
 
-// The next run, behind a break of `gap` (0: none): in detailed none joins, so the open one is written, and the break by its length.
+// The next run right behind the open one, which is written: in no text do they join.
+fn adjacent_turn(buf: &mut [u8], k: usize, last: Run, next: Run, words: &[u32; 192]) -> Turn
+    requires { ⌜ (k + 52 ≤ length (now buf)) × Words (now words) × (last .class ≢ 0) × (last .class ≤ 4) × (next .class ≢ 0) ⌝ }
+    ensures { λ r. ⌜ ((limit : ℕ) → Turned limit (runToken last) 0 (runToken next) (now (buf .entry)) k (now (buf .exit)) r) ⌝ }
+{
+    Turn {
+        run: next,
+        place: add_ended(buf, k, last, words),
+    }
+}
+
+// The next run behind a break: in detailed they don't join either, and the break is written by its length.
 fn detailed_turn(
     buf: &mut [u8],
     k: usize,
@@ -41,20 +52,17 @@ fn detailed_turn(
     next: Run,
     words: &[u32; 192],
 ) -> Turn
-    requires { ⌜ (k + 52 ≤ length (now buf)) × Words (now words) × (last .class ≢ 0) × (last .class ≤ 4) × (next .class ≢ 0) ⌝ }
+    requires { ⌜ (k + 52 ≤ length (now buf)) × Words (now words) × (1 ≤ gap) × (last .class ≢ 0) × (last .class ≤ 4) × (next .class ≢ 0) ⌝ }
     ensures { λ r. ⌜ Turned 0 (runToken last) gap (runToken next) (now (buf .entry)) k (now (buf .exit)) r ⌝ }
 {
     let place = add_ended(buf, k, last, words);
-    if gap == 0 {
-        return Turn { run: next, place };
-    }
     Turn {
         run: next,
         place: add_token(buf, place, 0, gap, words),
     }
 }
 
-// .. else it joins the open one, or that is written with the break behind it.
+// .. in the others the next run joins the open one, or that is written with the break behind it.
 fn joined_turn(
     buf: &mut [u8],
     k: usize,
@@ -107,9 +115,15 @@ fn three_turns(
         let t = run_place(cs, ns, i);
         let j = t.place;
         let next = open_run(cs[j], ns[j]);
-        a = detailed_turn(detailed, a.place, a.run, t.gap, next, words);
-        b = joined_turn(partial, b.place, 1, b.run, t.gap, next, words);
-        c = joined_turn(simplified, c.place, 4, c.run, t.gap, next, words);
+        if j == i {
+            a = adjacent_turn(detailed, a.place, a.run, next, words);
+            b = adjacent_turn(partial, b.place, b.run, next, words);
+            c = adjacent_turn(simplified, c.place, c.run, next, words);
+        } else {
+            a = detailed_turn(detailed, a.place, a.run, t.gap, next, words);
+            b = joined_turn(partial, b.place, 1, b.run, t.gap, next, words);
+            c = joined_turn(simplified, c.place, 4, c.run, t.gap, next, words);
+        }
         i = j + 1;
     }
     Turns {

@@ -1,13 +1,13 @@
 -- A chart of few tokens: its six texts, three at a time. Nothing here speaks of code.
 -- Assumes nothing.
-use Prim.Native.Nat.{ℕ, _+_, _-_, _≤_, _<_}
+use Prim.Native.Nat.{ℕ, _+_, _-_, _*_, _≤_, _<_}
 use mathlib.Core.Path.{_≡_, refl, sym, ap, _∙_}
 use mathlib.Core.Bool.{Bool, true, false}
 use mathlib.Core.Logic.{_≢_}
 use mathlib.Core.List.{List, [], _∷_, _++_, append-assoc, append-nil}
 use native.Mathlib.Nat.{zero-add}
 use native.Mathlib.Omega.{arith}
-use lib.ListN.{length, take, drop, getD, length-drop, length-map}
+use lib.ListN.{length, take, drop, getD, length-drop, length-map, replicate, length-replicate}
 use lib.Seq.{length-take-le}
 use Rattle.number.specs.Place.{Room, Wrote}
 use Rattle.number.proofs.Place.{room-first, room-next, wrote, at-start}
@@ -29,12 +29,19 @@ use Rattle.sn_text.specs.SnParts.{snOf}
 use Rattle.standard_text.specs.Standard.{standardFrom}
 use Rattle.breakdown.specs.Forms.{snForm, standardForm, textOf}
 use Rattle.breakdown.proofs.PartByPart.{first-sn, first-standard, first-here, class-here, tokens-behind}
-use Rattle.streams.specs.Pass.{Tokened, SixTexts}
+use Rattle.streams.specs.Pass.{Tokened, FewTokens, SixTexts}
 use Rattle.streams.proofs.Pass.{source, made}
 
 tokens-total : (m : List ℕ) → total (tokens (classes m)) ≤ length m
 unfolding tokens
 tokens-total m = rw total-runs (omega (arith, active-short (classes m), length-map m classOf))
+
+-- buffers of one size
+pub few-in : {m cs ns table old : List ℕ} (size : ℕ) → Tokened m cs ns old → Words table → length cs ≢ 0 → 11 * length cs + 52 ≤ size
+    → FewTokens m cs ns table (replicate size 0) (replicate size 0) (replicate size 0) old
+few-in size t w h l =
+    let e = length-replicate {A = ℕ} size 0 in
+    record { tokened = t; some = h; words = w; first = rw e l; second = rw e l; third = rw e l }
 
 -- the six texts are three and three
 threes : (m : List ℕ) → endToEnd passKinds m
@@ -66,7 +73,8 @@ module _ {m cs ns old : List ℕ} (t : Tokened m cs ns old) (h : length cs ≢ 0
 
   -- ---- what is asked of three texts
 
-  module _ {table a b d : List ℕ} (w : Words table) (few : length cs ≤ 88) (la : 1024 ≤ length a) (lb : 1024 ≤ length b) (ld : 1024 ≤ length d) where
+  module _ {table a b d : List ℕ} (w : Words table)
+      (la : 11 * length cs + 52 ≤ length a) (lb : 11 * length cs + 52 ≤ length b) (ld : 11 * length cs + 52 ≤ length d) where
     asked : {k : ℕ} → TokensBehind k backC backN → ThreeAsked k n backC backN table a b d
     asked g =
         let l : length backC ≡ length cs - 1 = length-take-le (length cs - 1) (drop 1 cs) (rw length-drop (omega arith)) in

@@ -1,6 +1,6 @@
 -- What the functions of the pass ask and promise.
 -- Assumes nothing.
-use Prim.Native.Nat.{ℕ, _≤_}
+use Prim.Native.Nat.{ℕ, _+_, _*_, _≤_}
 use mathlib.Core.Path.{_≡_}
 use mathlib.Core.Logic.{_≢_, _⊎_}
 use mathlib.Core.List.{List}
@@ -33,15 +33,14 @@ pub record Tokened (m cs ns old : List ℕ) : Type 0 where
   pub tokens : paired cs ns ≡ tokens (classes m)
   pub room : length (endToEnd passKinds m) ≤ length old
 
--- some tokens, but few, the table of words, and three buffers in which each text has room
+-- some tokens, the table of words, and three buffers in which each text has room
 pub record FewTokens (m cs ns table a b d old : List ℕ) : Type 0 where
   pub tokened : Tokened m cs ns old
   pub some : length cs ≢ 0
-  pub few : length cs ≤ 88
   pub words : Words table
-  pub first : 1024 ≤ length a
-  pub second : 1024 ≤ length b
-  pub third : 1024 ≤ length d
+  pub first : 11 * length cs + 52 ≤ length a
+  pub second : 11 * length cs + 52 ≤ length b
+  pub third : 11 * length cs + 52 ≤ length d
 
 -- the kind of text i of the pass
 abbrev pub passKind : ℕ → Kind

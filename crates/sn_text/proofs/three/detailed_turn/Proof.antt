@@ -7,7 +7,6 @@ use borrow.Author.Needs.{needs}
 use Rattle.text_buffer.specs.Runs.{runText}
 use Rattle.text_buffer.proofs.Bytes.{run-short}
 use Rattle.text_buffer.proofs.Growing.{grown}
-use Rattle.sn_text.proofs.SnParts.{adjacent-text}
 use Rattle.sn_text.proofs.SnThree.{none-joins, behind-text, turned-apart}
 use Rattle.sn_text.proofs.three.detailed_turn.Statement.{statement}
 use Rattle.sn_text.proofs.three.detailed_turn.Tie as tie
@@ -15,34 +14,24 @@ use Rattle.sn_text.proofs.three.detailed_turn.Tie as tie
 add-ended-requires : tie.Need-add-ended-requires
 add-ended-requires c κs = search needs
 
+add-token-requires : tie.Need-add-token-requires
+add-token-requires c κs =
+    let s = c .before .before .before .before .before .before in
+    let t = s .args .last in
+    let g = c .before .before .before .add-ended .ensures in
+    (omega (arith, s .pre .0, g .next, g .long, length-append (runText t) (32 ∷ []), run-short (t .class) (t .length) (t .starred) (omega arith)), s .pre .1, omega arith)
+
 same-length : tie.Need-same-length
 same-length c = search needs
 
 returns : tie.Need-returns
 returns c =
-    let s = c .before .before .before .before .before .before in
+    let s = c .before .before .before .before .before .before .before .before .before in
     let t = s .args .last in
-    turned-apart 0 t (s .args .gap) (s .args .next) (s .pre .2) (s .pre .4) (none-joins (t .class) (s .args .gap) (s .pre .4))
-    (rw (adjacent-text 0 (t .class) (t .length) (t .starred) (s .args .gap) (s .pre .2) (c .if1 .taken)) at (c .before .before .before .add-ended .ensures))
-
-add-token-requires : tie.Need-add-token-requires
-add-token-requires c κs =
-    let s = c .before .before .before .before .before .before .before in
-    let t = s .args .last in
-    let g = c .before .before .before .before .add-ended .ensures in
-    (omega (arith, s .pre .0, g .next, g .long, length-append (runText t) (32 ∷ []), run-short (t .class) (t .length) (t .starred) (omega arith)), s .pre .1, omega arith)
-
-same-length-2 : tie.Need-same-length-2
-same-length-2 c = search needs
-
-returns-2 : tie.Need-returns-2
-returns-2 c =
-    let s = c .before .before .before .before .before .before .before .before .before .before in
-    let t = s .args .last in
-    turned-apart 0 t (s .args .gap) (s .args .next) (s .pre .2) (s .pre .4) (none-joins (t .class) (s .args .gap) (s .pre .4))
-    (rw (behind-text (t .class) (t .length) (t .starred) (s .args .gap) (s .pre .2) (omega (arith, c .before .before .before .before .if1 .left))) at (grown _ _ (c .before .before .before .before .before .before .before .add-ended .ensures) (c .before .before .add-token .ensures)))
+    turned-apart 0 t (s .args .gap) (s .args .next) (s .pre .3) (s .pre .5) (none-joins (t .class) (s .args .gap) (s .pre .5))
+    (rw (behind-text (t .class) (t .length) (t .starred) (s .args .gap) (s .pre .3) (s .pre .2)) at (grown _ _ (c .before .before .before .before .before .before .add-ended .ensures) (c .before .before .add-token .ensures)))
 
 pub detailed-turn-spec : {M : Type 1} → statement M
 detailed-turn-spec =
     tie.close
-    (tie.spec add-ended-requires same-length returns add-token-requires same-length-2 returns-2)
+    (tie.spec add-ended-requires add-token-requires same-length returns)

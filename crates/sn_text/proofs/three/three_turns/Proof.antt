@@ -1,11 +1,12 @@
 -- `sn_text::three::three_turns` meets its contract: each text's steps are `SnThree`'s.
 -- Assumes nothing.
 use Prim.Native.Nat.{_-_}
+use mathlib.Core.Logic.{⊎-elim}
 use native.Mathlib.Omega.{arith}
 use lib.ListN.{length}
 use borrow.Author.Needs.{needs}
 use Rattle.text_buffer.specs.Runs.{runToken}
-use Rattle.sn_text.proofs.SnParts.{opened-at}
+use Rattle.sn_text.proofs.SnParts.{opened-at, no-break, some-break}
 use Rattle.sn_text.proofs.SnThree.{Walking, walking-starts, walking-low, walking-room, walking-few, walking-next, walking-ends}
 use Rattle.sn_text.proofs.three.three_turns.Statement.{statement}
 use Rattle.sn_text.proofs.three.three_turns.Tie as tie
@@ -37,42 +38,71 @@ shared-slice-read-open-run-2 c = let a = c .before .before .run-place .ensures i
 open-run-requires : tie.Need-open-run-requires Inv-loop μ-loop
 open-run-requires c κs = search needs
 
+adjacent-turn-requires : tie.Need-adjacent-turn-requires Inv-loop μ-loop
+adjacent-turn-requires c κs =
+    let w = c .before .before .before .before .before .before .before .loop .inv .0 in
+    let p = c .before .before .before .before .before .before .before .before .before .before .before .before .before .pre in
+    rw (c .before .before .open-run .ensures) (walking-room w (c .before .before .before .before .before .before .loop-test .taken) (p .roomFirst), p .words, w .opened .run, walking-low w, c .before .before .before .before .before .run-place .ensures .run)
+
+adjacent-turn-requires-2 : tie.Need-adjacent-turn-requires-2 Inv-loop μ-loop
+adjacent-turn-requires-2 c κs =
+    let w = c .before .before .before .before .before .before .before .before .before .before .before .loop .inv .1 in
+    let p = c .before .before .before .before .before .before .before .before .before .before .before .before .before .before .before .before .before .pre in
+    rw (c .before .before .before .before .before .before .open-run .ensures) (walking-room w (c .before .before .before .before .before .before .before .before .before .before .loop-test .taken) (p .roomSecond), p .words, w .opened .run, walking-low w, c .before .before .before .before .before .before .before .before .before .run-place .ensures .run)
+
+adjacent-turn-requires-3 : tie.Need-adjacent-turn-requires-3 Inv-loop μ-loop
+adjacent-turn-requires-3 c κs =
+    let w = c .before .before .before .before .before .before .before .before .before .before .before .before .before .before .before .loop .inv .2 in
+    let p = c .before .before .before .before .before .before .before .before .before .before .before .before .before .before .before .before .before .before .before .before .before .pre in
+    rw (c .before .before .before .before .before .before .before .before .before .before .open-run .ensures) (walking-room w (c .before .before .before .before .before .before .before .before .before .before .before .before .before .before .loop-test .taken) (p .roomThird), p .words, w .opened .run, walking-low w, c .before .before .before .before .before .before .before .before .before .before .before .before .before .run-place .ensures .run)
+
 detailed-turn-requires : tie.Need-detailed-turn-requires Inv-loop μ-loop
 detailed-turn-requires c κs =
-    let w = c .before .before .before .before .before .before .loop .inv .0 in
-    let p = c .before .before .before .before .before .before .before .before .before .before .before .before .pre in
-    let a = c .before .before .before .before .run-place .ensures in
-    rw (c .before .open-run .ensures) (walking-room w (c .before .before .before .before .before .loop-test .taken) (p .roomFirst), p .words, w .opened .run, walking-low w, a .run)
+    let w = c .before .before .before .before .before .before .before .loop .inv .0 in
+    let p = c .before .before .before .before .before .before .before .before .before .before .before .before .before .pre in
+    let a = c .before .before .before .before .before .run-place .ensures in
+    rw (c .before .before .open-run .ensures) (walking-room w (c .before .before .before .before .before .before .loop-test .taken) (p .roomFirst), p .words, some-break a (λ e. c .before .if1 .left (omega (arith, e))), w .opened .run, walking-low w, a .run)
 
 joined-turn-requires : tie.Need-joined-turn-requires Inv-loop μ-loop
 joined-turn-requires c κs =
-    let w = c .before .before .before .before .before .before .before .before .before .before .loop .inv .1 in
-    let p = c .before .before .before .before .before .before .before .before .before .before .before .before .before .before .before .before .pre in
-    let a = c .before .before .before .before .before .before .before .before .run-place .ensures in
-    rw (c .before .before .before .before .before .open-run .ensures) (walking-room w (c .before .before .before .before .before .before .before .before .before .loop-test .taken) (p .roomSecond), p .words, omega arith, w .opened .run, walking-low w, a .run, omega (arith, walking-few w a))
+    let w = c .before .before .before .before .before .before .before .before .before .before .before .loop .inv .1 in
+    let p = c .before .before .before .before .before .before .before .before .before .before .before .before .before .before .before .before .before .pre in
+    let a = c .before .before .before .before .before .before .before .before .before .run-place .ensures in
+    rw (c .before .before .before .before .before .before .open-run .ensures) (walking-room w (c .before .before .before .before .before .before .before .before .before .before .loop-test .taken) (p .roomSecond), p .words, omega arith, w .opened .run, walking-low w, a .run, omega (arith, walking-few w a))
 
 joined-turn-requires-2 : tie.Need-joined-turn-requires-2 Inv-loop μ-loop
 joined-turn-requires-2 c κs =
-    let w = c .before .before .before .before .before .before .before .before .before .before .before .before .before .before .loop .inv .2 in
-    let p = c .before .before .before .before .before .before .before .before .before .before .before .before .before .before .before .before .before .before .before .before .pre in
-    let a = c .before .before .before .before .before .before .before .before .before .before .before .before .run-place .ensures in
-    rw (c .before .before .before .before .before .before .before .before .before .open-run .ensures) (walking-room w (c .before .before .before .before .before .before .before .before .before .before .before .before .before .loop-test .taken) (p .roomThird), p .words, omega arith, w .opened .run, walking-low w, a .run, omega (arith, walking-few w a))
+    let w = c .before .before .before .before .before .before .before .before .before .before .before .before .before .before .before .loop .inv .2 in
+    let p = c .before .before .before .before .before .before .before .before .before .before .before .before .before .before .before .before .before .before .before .before .before .pre in
+    let a = c .before .before .before .before .before .before .before .before .before .before .before .before .before .run-place .ensures in
+    rw (c .before .before .before .before .before .before .before .before .before .before .open-run .ensures) (walking-room w (c .before .before .before .before .before .before .before .before .before .before .before .before .before .before .loop-test .taken) (p .roomThird), p .words, omega arith, w .opened .run, walking-low w, a .run, omega (arith, walking-few w a))
 
 add-i : tie.Need-add-i Inv-loop μ-loop
-add-i c = let a = c .before .before .before .before .before .before .before .before .before .before .before .before .before .before .before .run-place .ensures in omega (arith, a .within, c .before .before .before .before .before .before .before .before .before .before .before .before .before .before .before .before .before .before .before .before .before .before .before .pre .tokens .few)
+add-i c = let a = c .before .before .before .before .run-place .ensures in omega (arith, a .within, c .before .before .before .before .before .before .before .before .before .before .before .before .pre .tokens .few)
 
 loop-less : tie.Need-loop-less Inv-loop μ-loop
-loop-less c = let a = c .before .before .before .before .before .before .before .before .before .before .before .before .before .before .before .run-place .ensures in omega (arith, a .on, a .within)
+loop-less c = let a = c .before .before .before .before .run-place .ensures in omega (arith, a .on, a .within)
 
 loop-again : tie.Need-loop-again Inv-loop μ-loop
 loop-again c =
-    let w = c .before .before .before .before .before .before .before .before .before .before .before .before .before .before .before .before .before .loop .inv in
-    let a = c .before .before .before .before .before .before .before .before .before .before .before .before .before .before .before .run-place .ensures in
-    let e = c .before .before .before .before .before .before .before .before .before .before .before .before .open-run .ensures in (
-      walking-next (w .0) a (rw e at (c .before .before .before .before .before .before .before .before .before .before .detailed-turn .ensures)),
-      walking-next (w .1) a (rw e at (c .before .before .before .before .before .before .joined-turn .ensures)),
-      walking-next (w .2) a (rw e at (c .before .before .joined-turn2 .ensures)),
-    )
+    let w = c .before .before .before .before .before .before .loop .inv in
+    let a = c .before .before .before .before .run-place .ensures in
+    let e = c .before .open-run .ensures in
+    ⊎-elim
+    (λ x.
+    let b = rw (no-break a (omega (arith, x .0 .taken))) at a in
+    rw (x .13, x .14, x .15, x .16, x .17, x .18) (
+      walking-next (w .0) b (rw e at (x .2 .ensures 0)),
+      walking-next (w .1) b (rw e at (x .6 .ensures 1)),
+      walking-next (w .2) b (rw e at (x .10 .ensures 4)),
+    ))
+    (λ x.
+    rw (x .13, x .14, x .15, x .16, x .17, x .18) (
+      walking-next (w .0) a (rw e at (x .2 .ensures)),
+      walking-next (w .1) a (rw e at (x .6 .ensures)),
+      walking-next (w .2) a (rw e at (x .10 .ensures)),
+    ))
+    (c .if1 .came)
 
 same-length : tie.Need-same-length Inv-loop μ-loop
 same-length c = c .before .loop .inv .0 .grown .long
@@ -106,6 +136,9 @@ three-turns-spec =
     mul-open-run
     shared-slice-read-open-run-2
     open-run-requires
+    adjacent-turn-requires
+    adjacent-turn-requires-2
+    adjacent-turn-requires-3
     detailed-turn-requires
     joined-turn-requires
     joined-turn-requires-2

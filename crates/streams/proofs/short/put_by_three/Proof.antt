@@ -37,7 +37,7 @@ part-sn-three-end-2 c = search needs
 sn-three-requires : tie.Need-sn-three-requires
 sn-three-requires c κs =
     let p = c .before .before .before .before .before .before .before .before .before .before .before .before .before .before .before .pre in
-    rw (c .before .before .before .before .before .open-run .ensures) (sn-asked (p .tokened) (p .some) (p .words) (p .few) (p .first) (p .second) (p .third))
+    rw (c .before .before .before .before .before .open-run .ensures) (sn-asked (p .tokened) (p .some) (p .words) (p .first) (p .second) (p .third))
 
 put-three-requires : tie.Need-put-three-requires
 put-three-requires c κs =
@@ -69,7 +69,7 @@ standard-three-requires : tie.Need-standard-three-requires
 standard-three-requires c κs =
     let p = c .before .before .before .before .before .before .before .before .before .before .before .before .before .before .before .before .before .before .before .before .before .before .before .before .before .before .before .before .before .before .before .before .before .before .before .pre in
     let g = c .before .before .before .before .before .before .before .before .before .before .before .before .before .before .before .before .before .before .before .sn-three .ensures in
-    standard-asked (p .tokened) (p .some) (p .words) (p .few) (omega (arith, p .first, g .first .long)) (omega (arith, p .second, g .second .long)) (omega (arith, p .third, g .third .long))
+    standard-asked (p .tokened) (p .some) (p .words) (omega (arith, p .first, g .first .long)) (omega (arith, p .second, g .second .long)) (omega (arith, p .third, g .third .long))
 
 put-three-requires-2 : tie.Need-put-three-requires-2
 put-three-requires-2 c κs =
