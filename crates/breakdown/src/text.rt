@@ -146,7 +146,7 @@ pub fn text_of_measures(m: &[u32], form: Form, out: &mut [u8], at: usize) -> usi
     ensures { λ r. ⌜ Wrote (now (out .entry)) (now (out .exit)) at (textOf form (runs (classes (now (m .entry))))) r ⌝ }
 {
     let words = words();
-    let mut buf = [0u8; 512];
+    let mut buf = [0u8; 2048];
     let to = measures_text(m, form, &words, &mut buf, out, at);
     put_buffer(out, to.place, &buf, to.left)
 }

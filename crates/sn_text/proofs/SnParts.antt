@@ -281,7 +281,7 @@ pub token-none : (c n : ℕ) → (eqb c 0 && eqb n 1) ≡ true → ended 0 (drop
 token-none c n e = rw e
 
 -- no tokens
-pub none-written : (k : ℕ) (t : Token) (cs ns : List ℕ) {buf out : List ℕ} {from : Left} → TokensBehind (class t) cs ns → length cs ≡ 0 → from .left ≤ 448
+pub none-written : (k : ℕ) (t : Token) (cs ns : List ℕ) {buf out : List ℕ} {from : Left} → TokensBehind (class t) cs ns → length cs ≡ 0 → from .left ≤ 1984
     → PartWritten (snPart k t cs ns) (snOn k t) buf out from buf out from × OpenRun t cs t
 none-written k t cs ns b h l =
     let o = opened-starts k t b in
@@ -301,7 +301,7 @@ pub record Writing (k : ℕ) (t : Token) (cs ns old out : List ℕ) (from : Left
   pub wrote : Added old out from done buf new to
 
 pub writing-starts : (k : ℕ) (t : Token) {cs ns : List ℕ} (buf out : List ℕ) (from : Left)
-    → TokensBehind (class t) cs ns → from .left ≤ 448 → Writing k t cs ns buf out from buf out t from 0
+    → TokensBehind (class t) cs ns → from .left ≤ 1984 → Writing k t cs ns buf out from buf out t from 0
 writing-starts k t buf out from h l = record { done = []; opened = opened-starts k t h; wrote = added-none l }
 
 module _ {k : ℕ} {t : Token} {cs ns old out : List ℕ} {from : Left} {buf mid : List ℕ} {u : Token} {to : Left} {i : ℕ}
@@ -453,7 +453,7 @@ pub record Listing (cs ns old out : List ℕ) (from : Left) (buf new : List ℕ)
   pub behind : Behind earlier (drop i (paired cs ns))
   pub wrote : Added old out from done buf new to
 
-pub listing-starts : (cs ns buf out : List ℕ) (from : Left) (c : ℕ) → Behind c (paired cs ns) → from .left ≤ 448 → Listing cs ns buf out from buf out from 0
+pub listing-starts : (cs ns buf out : List ℕ) (from : Left) (c : ℕ) → Behind c (paired cs ns) → from .left ≤ 1984 → Listing cs ns buf out from buf out from 0
 listing-starts cs ns buf out from c b l = record { done = []; whole = λ more. refl; earlier = c; behind = b; wrote = added-none l }
 
 pub listing-low : {cs ns old out : List ℕ} {from : Left} {buf mid : List ℕ} {to : Left} {i : ℕ} → Listing cs ns old out from buf mid to i

@@ -235,7 +235,7 @@ module _ (b : Bool) (k n : ℕ) (s : Bool) (cs ns old out : List ℕ) (from : Le
     pub small : m ≤ n + 4294967296 * i
     pub written : PartWritten (standardPart b k n s cs ns) (λ more. standardFrom b k m t (drop i (paired cs ns) ++ more)) old out from buf new to
 
-  pub part-starts : TokensBehind 1 cs ns → from .left ≤ 448 → Parted old out from 0 n s
+  pub part-starts : TokensBehind 1 cs ns → from .left ≤ 1984 → Parted old out from 0 n s
   part-starts h f =
       record {
         standing = standing-first h;

@@ -118,7 +118,7 @@ fn put_texts(m: &[u32], classes: &[u8], lengths: &[u32], dense: bool, out: &mut 
     if classes.len() != 0 && classes.len() <= 1484 {
         return put_short(m, classes, lengths, &words, out);
     }
-    let mut buf = [0u8; 512];
+    let mut buf = [0u8; 2048];
     put_six(m, classes, lengths, dense, &words, &mut buf, out)
 }
 

@@ -11,7 +11,7 @@ use Rattle.number.proofs.Place.{still, room-first, room-next, wrote, wrote-leng
 use Rattle.text_buffer.specs.Buffer.{Added, Grown, Ready, goesOn}
 use Rattle.text_buffer.specs.declared.buffer.Left.{Left}
 
-pub added-none : {buf out : List ℕ} {from : Left} → from .left ≤ 448 → Added buf out from [] buf out from
+pub added-none : {buf out : List ℕ} {from : Left} → from .left ≤ 1984 → Added buf out from [] buf out from
 added-none {buf} {out} {from} h = record { front = []; wrote = still; all = sym (append-nil (take (from .left) buf)); long = refl; few = h }
 
 module _ {old out : List ℕ} {from : Left} (xs : List ℕ) {buf mid : List ℕ} {to : Left} (a : Added old out from xs buf mid to) where
@@ -66,7 +66,7 @@ module _ {buf new : List ℕ} {k : ℕ} (ys : List ℕ) {full : ℕ} (g : Grown 
       }
 
   -- .. which is not nearly full
-  pub grown-only : {out : List ℕ} {place : ℕ} → full ≤ 448 → Added buf out (goesOn place k) ys new out (goesOn place full)
+  pub grown-only : {out : List ℕ} {place : ℕ} → full ≤ 1984 → Added buf out (goesOn place k) ys new out (goesOn place full)
   grown-only h = grown-added (added-none h)
 
 -- a text that grows by ys
@@ -89,7 +89,7 @@ pub record Begun (old out : List ℕ) (from : Left) (whole rest buf new : List �
   pub text : whole ≡ done ++ rest
   pub sofar : Added old out from done buf new to
 
-pub begins : {buf out : List ℕ} {from : Left} {whole : List ℕ} → from .left ≤ 448 → Begun buf out from whole whole buf out from
+pub begins : {buf out : List ℕ} {from : Left} {whole : List ℕ} → from .left ≤ 1984 → Begun buf out from whole whole buf out from
 begins h = record { done = []; text = refl; sofar = added-none h }
 
 module _ {old out : List ℕ} {from : Left} {whole rest buf new : List ℕ} {to : Left} (g : Begun old out from whole rest buf new to) where

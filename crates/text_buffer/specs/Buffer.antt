@@ -16,8 +16,8 @@ pub record Grown (old new : List ℕ) (k : ℕ) (xs : List ℕ) (r : ℕ) : Type
 
 -- a buffer with room for one more group or piece, and the table of words
 pub record Ready (buf : List ℕ) (left : ℕ) (table : List ℕ) : Type 0 where
-  pub long : 512 ≤ length buf
-  pub few : left ≤ 448
+  pub long : 2048 ≤ length buf
+  pub few : left ≤ 1984
   pub words : Words table
 
 -- where a text goes on: a place of the slice, and so many bytes in the buffer
@@ -30,4 +30,4 @@ pub record Added (old : List ℕ) (out : List ℕ) (from : Left) (xs : List ℕ)
   pub wrote : Wrote out new (from .place) front (to .place)
   pub all : front ++ take (to .left) buf ≡ take (from .left) old ++ xs
   pub long : length buf ≡ length old
-  pub few : to .left ≤ 448
+  pub few : to .left ≤ 1984

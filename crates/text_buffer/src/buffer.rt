@@ -87,7 +87,7 @@ pub fn flush(buf: &[u8], out: &mut [u8], place: usize, left: usize) -> Left
     requires { ⌜ (left ≤ length (now buf)) × Room (now out) place (take left (now buf)) ⌝ }
     ensures { λ r. ⌜ Added (now (buf .entry)) (now (out .entry)) (goesOn place left) [] (now (buf .entry)) (now (out .exit)) r ⌝ }
 {
-    if left > 448 {
+    if left > 1984 {
         return Left {
             place: put_buffer(out, place, buf, left),
             left: 0,
