@@ -9,7 +9,6 @@ use lib.Seq.{take-append-seam}
 use Rattle.number.specs.Questions.{accepted, filled}
 use Rattle.number.specs.declared.Written.{Written}
 use Rattle.rules.specs.Chart.{classes, counts}
-use Rattle.rules.specs.Reduced.{reduced}
 use Rattle.rules.specs.declared.Kind.{Kind}
 use Rattle.rules.specs.declared.Kind.the-variants.{Standard as standard}
 use Rattle.rules.specs.Texts.{text, endToEnd, lengthsOf, passKinds}

@@ -9,7 +9,6 @@ use lib.Seq.{take-append-seam, drop-append-seam}
 use Rattle.number.specs.Questions.{accepted, filled}
 use Rattle.number.proofs.Each.{none, _&_}
 use Rattle.rules.specs.declared.Kind.{Kind}
-use Rattle.rules.specs.declared.Kind.the-variants.{Standard as standard}
 use Rattle.rules.specs.Texts.{text, endToEnd, lengthsOf}
 use Rattle.rules.proofs.Lines.{OneLine, text-line}
 use Rattle.sheet_lines.specs.Sheet.{line, textLines}

@@ -1,10 +1,9 @@
 -- The loop of `add_up`, as lists: each sum, with what the tokens not yet read hold, is what all hold.
 -- Assumes nothing.
 use Prim.Native.Nat.{ℕ, zero, suc, _+_, _<_, _≤_}
-use mathlib.Core.Path.{_≡_, refl}
+use mathlib.Core.Path.{_≡_}
 use mathlib.Core.Bool.{false, cond}
 use mathlib.Core.List.{List, [], _∷_}
-use native.Mathlib.Nat.{not-suc-le-zero, le-of-suc-le-suc}
 use native.Mathlib.Numerals.{add-one}
 use native.Mathlib.Omega.{arith}
 use lib.Dec.{eqb, ltb}
@@ -16,20 +15,7 @@ use Rattle.rules.proofs.Cost.{total}
 use Rattle.measures.specs.Sums.{held, wideOf, sumsOf}
 use Rattle.measures.specs.Scan.{paired, Paired}
 use Rattle.measures.proofs.Counted.{held-most, wide-most}
-
--- the token at i, and those after it
-next : (cs ns : List ℕ) (i : ℕ) → length cs ≡ length ns → i < length cs → drop i (paired cs ns) ≡ token (getD cs i 0) (getD ns i 0) false ∷ drop (suc i) (paired cs ns)
-next [] ns i e h = absurd (not-suc-le-zero h)
-next (c ∷ cs) [] i e h = absurd (omega arith)
-next (c ∷ cs) (n ∷ ns) zero e h = refl
-next (c ∷ cs) (n ∷ ns) (suc i) e h = next cs ns i (omega arith) (le-of-suc-le-suc h)
-
-none-left : (cs ns : List ℕ) (i : ℕ) → length cs ≤ i → drop i (paired cs ns) ≡ []
-none-left [] ns zero h = refl
-none-left [] ns (suc i) h = refl
-none-left (c ∷ cs) ns zero h = absurd (not-suc-le-zero h)
-none-left (c ∷ cs) [] (suc i) h = refl
-none-left (c ∷ cs) (n ∷ ns) (suc i) h = none-left cs ns i (le-of-suc-le-suc h)
+use Rattle.measures.proofs.Pairs.{slices-next, none-left}
 
 total-drop : (i : ℕ) (ts : List Token) → total (drop i ts) ≤ total ts
 total-drop zero ts = omega arith
@@ -79,7 +65,7 @@ module _ {cs ns : List ℕ} {a b c d e f i : ℕ} (g : Adding cs ns a b c d e f 
   module _ (h : i < length cs) where
     -- .. and so is a length
     pub small : getD ns i 0 ≤ 1048576
-    small = omega (arith, g .pairs .few, rw (next cs ns i (g .pairs .long) h) at (total-drop i (paired cs ns)))
+    small = omega (arith, g .pairs .few, rw (slices-next cs ns i (g .pairs .long) h) at (total-drop i (paired cs ns)))
 
     pub added :
         let x = getD cs i 0 in
@@ -88,7 +74,7 @@ module _ {cs ns : List ℕ} {a b c d e f i : ℕ} (g : Adding cs ns a b c d e f 
     added =
         let x = getD cs i 0 in
         let n = getD ns i 0 in
-        let q = next cs ns i (g .pairs .long) h in
+        let q = slices-next cs ns i (g .pairs .long) h in
         let rest = drop (suc i) (paired cs ns) in
         record {
           pairs = g .pairs;

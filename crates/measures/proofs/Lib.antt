@@ -6,6 +6,7 @@ pub mod Tallied
 pub mod Table
 pub mod Front
 pub mod Going
+pub mod Pairs
 pub mod Adding
 pub mod Written
 pub mod Shared

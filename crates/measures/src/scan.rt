@@ -11,7 +11,7 @@ ghost use mathlib.Core.Bool.{cond};
 ghost use lib.Dec.{eqb};
 ghost use lib.ListN.{length};
 ghost use Prim.Native.Nat.{_+_, _≤_, _<_, _^_};
-ghost use Rattle.rules.specs.Chart.{classOf, runs, tokens};
+ghost use Rattle.rules.specs.Chart.{classOf, tokens};
 ghost use Rattle.measures.specs.Sums.{sumsOf};
 ghost use Rattle.measures.specs.Scan.{classTable, Bounded, OfClass, Steps, Stepped, Ready, FirstRuns, paired, Paired, TokenRoom, Scanned, Ahead, FirstTokens};
 

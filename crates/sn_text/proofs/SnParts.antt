@@ -29,7 +29,8 @@ use Rattle.text_buffer.specs.Parts.{TokensBehind, PartRoom, PartWritten, PartMe
 use Rattle.sn_text.specs.SnParts.{OpenRun, spaced, snOf, snPart, snOn, ended, longBreak, joinClass, TokenAt, RunAt, WithBreak, SideLength}
 use Rattle.text_buffer.specs.Words.{side}
 use Rattle.text_buffer.proofs.Bytes.{sign-one}
-use Rattle.text_buffer.proofs.Reading.{behind-low, none-left, slices-next, run-behind}
+use Rattle.text_buffer.proofs.Reading.{behind-low, run-behind}
+use Rattle.measures.proofs.Pairs.{none-left, slices-next}
 use Rattle.sn_text.proofs.Groups.{drop-append, after-run, after-join, after-apart, break-tokens, one-shows, short-shows, long-shows}
 use Rattle.text_buffer.proofs.Added.{added-none, added-room, added, grown-room, grown-added, step-room, step}
 use Rattle.text_buffer.specs.declared.buffer.Left.{Left}

@@ -27,7 +27,7 @@ use Rattle.standard_text.specs.Filled.{doneText, doneTexts, Long, Standi
 use Rattle.text_buffer.specs.declared.buffer.Left.{Left}
 use Rattle.text_buffer.proofs.Added.{added-none, added-room, added, grown-added}
 use Rattle.standard_text.proofs.Pieces.{after-run, after-over, after-apart, none-before}
-use Rattle.text_buffer.proofs.Reading.{none-left, slices-next}
+use Rattle.measures.proofs.Pairs.{none-left, slices-next}
 
 -- ---- the text behind an open piece, by the token that follows
 

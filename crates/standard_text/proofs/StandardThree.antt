@@ -20,7 +20,7 @@ use Rattle.text_buffer.specs.Buffer.{Grown}
 use Rattle.text_buffer.specs.Parts.{TokensBehind}
 use Rattle.text_buffer.proofs.Bytes.{measures-short, star-short, sign-short, sign-long}
 use Rattle.text_buffer.proofs.Growing.{grown as grown-on, grown-none}
-use Rattle.text_buffer.proofs.Reading.{none-left}
+use Rattle.measures.proofs.Pairs.{none-left}
 use Rattle.standard_text.specs.Standard.{gapItem, standardFrom}
 use Rattle.standard_text.specs.Filled.{doneText, Standing}
 use Rattle.standard_text.specs.StandardThree.{OpenedIn}

@@ -1,13 +1,12 @@
--- Tokens, one by one: in two slices, and of measures.
+-- The tokens of measures, one by one, and what stands behind a token.
 -- Assumes nothing.
-use Prim.Native.Nat.{ℕ, zero, suc, _+_, _≤_, _<_}
+use Prim.Native.Nat.{ℕ, suc, _+_, _≤_, _<_}
 use mathlib.Core.Path.{_≡_, refl, _∙_}
 use mathlib.Core.Bool.{false}
 use mathlib.Core.Logic.{_≢_}
 use mathlib.Core.List.{List, [], _∷_}
-use native.Mathlib.Nat.{not-suc-le-zero, le-of-suc-le-suc}
 use native.Mathlib.Omega.{arith}
-use lib.ListN.{length, drop, getD}
+use lib.ListN.{length, drop}
 use Rattle.rules.specs.Chart.{classOf, classes, Token, token, runs}
 use Rattle.rules.specs.Calls.{stepAt}
 use Rattle.rules.specs.declared.ViewToken.{ViewToken}
@@ -17,22 +16,6 @@ use Rattle.measures.proofs.Stepping.{run-fits}
 use Rattle.measures.specs.Scan.{paired}
 use Rattle.text_buffer.specs.Parts.{TokensBehind}
 use Rattle.text_buffer.specs.Behind.{Behind, Alternates, firstClass}
-
--- ---- tokens in two slices
-
-pub none-left : (cs ns : List ℕ) (i : ℕ) → length cs ≤ i → drop i (paired cs ns) ≡ []
-none-left [] ns zero h = refl
-none-left [] ns (suc i) h = refl
-none-left (c ∷ cs) ns zero h = absurd (not-suc-le-zero h)
-none-left (c ∷ cs) [] (suc i) h = refl
-none-left (c ∷ cs) (n ∷ ns) (suc i) h = none-left cs ns i (le-of-suc-le-suc h)
-
-pub slices-next : (cs ns : List ℕ) (i : ℕ) → length cs ≡ length ns → i < length cs
-    → drop i (paired cs ns) ≡ token (getD cs i 0) (getD ns i 0) false ∷ drop (suc i) (paired cs ns)
-slices-next [] ns i e h = absurd (not-suc-le-zero h)
-slices-next (c ∷ cs) [] i e h = absurd (omega arith)
-slices-next (c ∷ cs) (n ∷ ns) zero e h = refl
-slices-next (c ∷ cs) (n ∷ ns) (suc i) e h = slices-next cs ns i (omega arith) (le-of-suc-le-suc h)
 
 -- ---- the first token of some measures
 

@@ -3,7 +3,7 @@
 use Prim.Native.Nat.{ℕ, zero, suc, _+_, _/_, _%_, _≤_, _<_, min}
 use mathlib.Core.Path.{_≡_}
 use mathlib.Core.List.{List, [], _∷_, _++_}
-use lib.ListN.{length, take, getD}
+use lib.ListN.{take, getD}
 use Rattle.number.specs.Digits.{digits}
 use Rattle.rules.specs.Bytes.{bytes}
 use Rattle.rules.specs.Reduced.{signOf}
