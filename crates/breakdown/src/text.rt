@@ -15,6 +15,7 @@ use text_buffer::run::Run;
 use text_buffer::run::add_run;
 use text_buffer::words::words;
 ghost use Prim.Native.Nat.{_+_, _≤_, _^_};
+ghost use mathlib.Core.Path.{_≡_};
 ghost use mathlib.Core.List.{[], _++_};
 ghost use mathlib.Core.Logic.{_≢_};
 ghost use lib.ListN.{length, take};
@@ -25,6 +26,17 @@ ghost use Rattle.text_buffer.specs.Buffer.{Added, Grown, Ready, goesOn};
 ghost use Rattle.text_buffer.specs.Parts.{Tokens, TokensBehind, PartRoom, PartWritten};
 ghost use Rattle.breakdown.specs.Forms.{formWith, textOf, openText, partText, Open, OpenNext, FirstRun, ActiveMeasures};
 ghost use Rattle.text_buffer.specs.Runs.{runText};
+
+// An open piece of a standard text, as a run.
+fn piece_run(piece: Piece) -> Run
+    ensures { λ r. ⌜ r ≡ record { class = 1; length = piece .length; starred = piece .starred } ⌝ }
+{
+    Run {
+        class: 1,
+        length: piece.length,
+        starred: piece.starred,
+    }
+}
 
 // One part of a text, of the form that sn, limit and signs say; the run or piece that is open behind it is answered. The form and the place are passed
 // as numbers: a struct that is passed on is copied by wider loads than it was stored by, which the processor has to wait for.
@@ -61,13 +73,39 @@ fn text_part(
     let last = d.piece;
     let to = d.to;
     Done {
-        run: Run {
-            class: 1,
-            length: last.length,
-            starred: last.starred,
-        },
+        run: piece_run(last),
         to,
     }
+}
+
+// .. of a form.
+fn form_part(
+    cs: &[u8],
+    ns: &[u32],
+    form: Form,
+    run: Run,
+    words: &[u32; 192],
+    buf: &mut [u8],
+    out: &mut [u8],
+    to: Left,
+) -> Done
+    requires { ⌜ TokensBehind (run .class) (now cs) (now ns) × Open form run × (run .length ≤ 2 ^ 62) × Ready (now buf) (to .left) (now words) × PartRoom (partText form run (now cs) (now ns)) (now buf) (now out) to ⌝ }
+    ensures { λ r. ⌜ PartWritten (partText form run (now (cs .entry)) (now (ns .entry))) (openText form (r .run)) (now (buf .entry)) (now (out .entry)) to (now (buf .exit)) (now (out .exit)) (r .to) × OpenNext form run (length (now (cs .entry))) (r .run) ⌝ }
+{
+    text_part(
+        cs,
+        ns,
+        form.sn,
+        form.limit,
+        form.signs,
+        false,
+        run,
+        words,
+        buf,
+        out,
+        to.place,
+        to.left,
+    )
 }
 
 // The run or piece of the first token.
@@ -177,20 +215,8 @@ fn measures_text(
     let mut i = first.length as usize;
     while i < m.len() {
         let t = tokens_into(&m[i..], &mut cs, &mut ns);
-        let done = text_part(
-            &cs[..t.tokens],
-            &ns[..t.tokens],
-            form.sn,
-            form.limit,
-            form.signs,
-            false,
-            run,
-            words,
-            buf,
-            out,
-            to.place,
-            to.left,
-        );
+        let k = t.tokens;
+        let done = form_part(&cs[..k], &ns[..k], form, run, words, buf, out, to);
         run = done.run;
         to = done.to;
         i += t.next;

@@ -75,20 +75,20 @@ tokens-into-requires c κs =
 array-share-prefix-cs : tie.Need-array-share-prefix-cs Inv-loop μ-loop
 array-share-prefix-cs c = search needs
 
-slice-aggregate-text-part : tie.Need-slice-aggregate-text-part Inv-loop μ-loop
-slice-aggregate-text-part c = sym (length-take-le _ _ (c .before .before .before .tokens-into .ensures .fits))
+slice-aggregate-form-part : tie.Need-slice-aggregate-form-part Inv-loop μ-loop
+slice-aggregate-form-part c = sym (length-take-le _ _ (c .before .before .before .tokens-into .ensures .fits))
 
 array-share-prefix-ns : tie.Need-array-share-prefix-ns Inv-loop μ-loop
 array-share-prefix-ns c = search needs
 
-slice-aggregate-text-part-2 : tie.Need-slice-aggregate-text-part-2 Inv-loop μ-loop
-slice-aggregate-text-part-2 c =
+slice-aggregate-form-part-2 : tie.Need-slice-aggregate-form-part-2 Inv-loop μ-loop
+slice-aggregate-form-part-2 c =
     let l = c .before .before .before .before .before .before .before .before .before .loop .inv in
     let g = c .before .before .before .before .tokens-into .ensures in
     sym (length-take-le _ _ (omega (arith, g .fits, g .longC, g .longN, l .0, l .1)))
 
-text-part-requires : tie.Need-text-part-requires Inv-loop μ-loop
-text-part-requires c κs =
+form-part-requires : tie.Need-form-part-requires Inv-loop μ-loop
+form-part-requires c κs =
     let s = c .before .before .before .before .before .before .before .before .before .before .before .before .before .before .before .before .before .before .before in
     let l = c .before .before .before .before .before .before .before .before .before .before .before .loop .inv in
     let g = c .before .before .before .before .before .before .tokens-into .ensures in (
@@ -111,8 +111,8 @@ loop-again : tie.Need-loop-again Inv-loop μ-loop
 loop-again c =
     let l = c .before .before .before .before .before .before .before .before .before .before .before .before .before .before .before .before .before .before .before .loop .inv in
     let g = c .before .before .before .before .before .before .before .before .before .before .before .before .before .before .tokens-into .ensures in
-    let w = c .before .before .before .before .before .before .before .text-part .ensures in
-    let e = on-text (l .2) g (w .0 .done) (c .before .before .before .before .before .before .before .text-part .result .run) (w .0 .whole) in
+    let w = c .before .before .before .before .before .before .before .form-part .ensures in
+    let e = on-text (l .2) g (w .0 .done) (c .before .before .before .before .before .before .before .form-part .result .run) (w .0 .whole) in
     (g .longC ∙ l .0, g .longN ∙ l .1, on (l .2) g (as-long g (l .0) (l .1)) (most g (l .0)) (w .1), Text.on (l .3) (w .0 .done) _ e (w .0 .wrote))
 
 add-last-requires : tie.Need-add-last-requires Inv-loop μ-loop
@@ -156,10 +156,10 @@ measures-text-spec =
     slice-aggregate-tokens-into-2
     tokens-into-requires
     array-share-prefix-cs
-    slice-aggregate-text-part
+    slice-aggregate-form-part
     array-share-prefix-ns
-    slice-aggregate-text-part-2
-    text-part-requires
+    slice-aggregate-form-part-2
+    form-part-requires
     add-i
     loop-less
     loop-again

@@ -41,14 +41,17 @@ standard-part-requires c κs =
     let e = c .before .before .before .if1 .left in
     record { tokens = rw (p .1 .piece e) at (p .0); short = p .2; ready = p .3; room = record { more = p .4 .more; room = rw e at (p .4 .room) } }
 
+piece-run-requires : tie.Need-piece-run-requires
+piece-run-requires c κs = search needs
+
 written : tie.Need-returns-2
 written c =
-    let s = c .before .before .before .before .before .before .before .before .args in
-    let e = c .before .before .before .if1 .left in
+    let s = c .before .before .before .before .before .before .before .before .before .args in
+    let e = c .before .before .before .before .if1 .left in
     ⊎-elim
-    (λ w. rw (w .8, w .9, w .10) (piece-part (formWith (s .sn) (s .limit) (s .signs)) (s .run) (s .cs .now) (s .ns .now) e (w .3 .result .piece) (w .3 .ensures)))
-    (λ w. rw (w .8, w .9, w .10) (piece-part (formWith (s .sn) (s .limit) (s .signs)) (s .run) (s .cs .now) (s .ns .now) e (w .3 .result .piece) (w .3 .ensures)))
-    (c .before .before .if2 .came)
+    (λ w. rw (c .piece-run .ensures, w .8, w .9, w .10) (piece-part (formWith (s .sn) (s .limit) (s .signs)) (s .run) (s .cs .now) (s .ns .now) e (w .3 .result .piece) (w .3 .ensures)))
+    (λ w. rw (c .piece-run .ensures, w .8, w .9, w .10) (piece-part (formWith (s .sn) (s .limit) (s .signs)) (s .run) (s .cs .now) (s .ns .now) e (w .3 .result .piece) (w .3 .ensures)))
+    (c .before .before .before .if2 .came)
 
 same-length-3 : tie.Need-same-length-3
 same-length-3 c = written c .0 .wrote .long
@@ -69,6 +72,7 @@ text-part-spec =
     returns
     dense-part-requires
     standard-part-requires
+    piece-run-requires
     same-length-3
     same-length-4
     returns-2)
