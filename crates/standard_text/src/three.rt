@@ -5,13 +5,14 @@ use text_buffer::buffer::add_number;
 use text_buffer::run::add_star;
 use text_buffer::three::Three;
 ghost use Prim.Native.Nat.{_+_, _^_, _≤_, _<_};
+ghost use mathlib.Core.Path.{_≡_};
 ghost use mathlib.Core.Bool.{true, false};
 ghost use lib.ListN.{length};
 ghost use Rattle.measures.specs.Scan.{paired};
 ghost use Rattle.text_buffer.specs.Three.{ThreeAsked, ThreeGrown};
 ghost use Rattle.text_buffer.specs.Words.{Words};
 ghost use Rattle.standard_text.specs.Standard.{standardFrom};
-ghost use Rattle.standard_text.specs.StandardThree.{SimpleTurned, ThreeOpened};
+ghost use Rattle.standard_text.specs.StandardThree.{SimpleTurned, RunTurned, GapAsked, GapTurned, firstTurn, ThreeOpened};
 
 // The piece that is open in the simple text, and the next place of its buffer.
 struct SimpleTurn {
@@ -58,6 +59,67 @@ fn simple_turn(
     }
 }
 
+// A run of n measures right behind the open pieces.
+fn run_turn(t: PieceTurns, n: u32) -> PieceTurns
+    requires { ⌜ (t .piece + n < 2 ^ 64) × (t .joined .length + n < 2 ^ 64) ⌝ }
+    ensures { λ r. ⌜ RunTurned t n r ⌝ }
+{
+    let last = t.joined;
+    PieceTurns {
+        piece: t.piece + n as u64,
+        joined: Piece {
+            length: last.length + n as u64,
+            starred: last.starred,
+        },
+        detailed: t.detailed,
+        partial: t.partial,
+        simple: t.simple,
+    }
+}
+
+// A gap and the run behind it, of n measures.
+fn gap_turn(
+    t: PieceTurns,
+    gap: u32,
+    n: u32,
+    words: &[u32; 192],
+    detailed: &mut [u8],
+    partial: &mut [u8],
+    simple: &mut [u8],
+) -> PieceTurns
+    requires { ⌜ GapAsked t gap n (now words) (now detailed) (now partial) (now simple) ⌝ }
+    ensures { λ r. ⌜ GapTurned t gap n (now (detailed .entry)) (now (detailed .exit)) (now (partial .entry)) (now (partial .exit)) (now (simple .entry)) (now (simple .exit)) r ⌝ }
+{
+    let d = add_piece(detailed, t.detailed, t.piece, false, gap, false, words);
+    let p = add_piece(partial, t.partial, t.piece, false, gap, true, words);
+    let last = t.joined;
+    let s = simple_turn(simple, t.simple, last, gap, n, words);
+    let joined = s.piece;
+    PieceTurns {
+        piece: n as u64,
+        joined,
+        detailed: d,
+        partial: p,
+        simple: s.place,
+    }
+}
+
+// What is open at the first run.
+fn first_turn(first: u32) -> PieceTurns
+    ensures { λ r. ⌜ r ≡ firstTurn first ⌝ }
+{
+    PieceTurns {
+        piece: first as u64,
+        joined: Piece {
+            length: first as u64,
+            starred: false,
+        },
+        detailed: 0,
+        partial: 0,
+        simple: 0,
+    }
+}
+
 // All but the last piece of each text, behind the first run.
 fn three_pieces(
     cs: &[u8],
@@ -71,40 +133,20 @@ fn three_pieces(
     requires { ⌜ ThreeAsked 1 first (now cs) (now ns) (now words) (now detailed) (now partial) (now simple) ⌝ }
     ensures { λ r. ⌜ ThreeOpened first (now (cs .entry)) (now (ns .entry)) (now (detailed .entry)) (now (detailed .exit)) (now (partial .entry)) (now (partial .exit)) (now (simple .entry)) (now (simple .exit)) r ⌝ }
 {
-    let mut piece = first as u64;
-    let mut joined = Piece {
-        length: piece,
-        starred: false,
-    };
-    let mut a: usize = 0;
-    let mut b: usize = 0;
-    let mut c: usize = 0;
+    let mut t = first_turn(first);
     let mut i: usize = 0;
     while i < cs.len() {
         let n = ns[i];
         let next = i + 1;
         if cs[i] != 0 {
-            piece += n as u64;
-            joined.length += n as u64;
+            t = run_turn(t, n);
             i = next;
         } else {
-            let more = ns[next];
-            a = add_piece(detailed, a, piece, false, n, false, words);
-            b = add_piece(partial, b, piece, false, n, true, words);
-            let t = simple_turn(simple, c, joined, n, more, words);
-            joined = t.piece;
-            c = t.place;
-            piece = more as u64;
+            t = gap_turn(t, n, ns[next], words, detailed, partial, simple);
             i = next + 1;
         }
     }
-    PieceTurns {
-        piece,
-        joined,
-        detailed: a,
-        partial: b,
-        simple: c,
-    }
+    t
 }
 
 // The texts of a chart's first run, of `first` measures, and of the tokens behind it; how many bytes each has is answered.
