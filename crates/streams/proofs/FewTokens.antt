@@ -29,7 +29,7 @@ use Rattle.sn_text.specs.SnParts.{snOf}
 use Rattle.standard_text.specs.Standard.{standardFrom}
 use Rattle.breakdown.specs.Forms.{snForm, standardForm, textOf}
 use Rattle.breakdown.proofs.PartByPart.{first-sn, first-standard, first-here, class-here, tokens-behind}
-use Rattle.streams.specs.Pass.{Tokened, FewTokens, SixTexts}
+use Rattle.streams.specs.Pass.{Tokened, UpTo, FewTokens, SixTexts}
 use Rattle.streams.proofs.Pass.{source, made}
 
 tokens-total : (m : List ℕ) → total (tokens (classes m)) ≤ length m
@@ -37,11 +37,11 @@ unfolding tokens
 tokens-total m = rw total-runs (omega (arith, active-short (classes m), length-map m classOf))
 
 -- buffers of one size
-pub few-in : {m cs ns table old : List ℕ} (size : ℕ) → Tokened m cs ns old → Words table → length cs ≢ 0 → 11 * length cs + 52 ≤ size
+pub few-in : {most : ℕ} {m cs ns table old : List ℕ} (size : ℕ) → UpTo most m cs ns table old → 11 * length cs + 52 ≤ size
     → FewTokens m cs ns table (replicate size 0) (replicate size 0) (replicate size 0) old
-few-in size t w h l =
+few-in size u l =
     let e = length-replicate {A = ℕ} size 0 in
-    record { tokened = t; some = h; words = w; first = rw e l; second = rw e l; third = rw e l }
+    record { tokened = u .tokened; some = u .some; words = u .words; first = rw e l; second = rw e l; third = rw e l }
 
 -- the six texts are three and three
 threes : (m : List ℕ) → endToEnd passKinds m

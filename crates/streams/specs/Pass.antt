@@ -33,6 +33,13 @@ pub record Tokened (m cs ns old : List ℕ) : Type 0 where
   pub tokens : paired cs ns ≡ tokens (classes m)
   pub room : length (endToEnd passKinds m) ≤ length old
 
+-- some tokens, `most` at most, and the table of words
+pub record UpTo (most : ℕ) (m cs ns table old : List ℕ) : Type 0 where
+  pub tokened : Tokened m cs ns old
+  pub words : Words table
+  pub some : length cs ≢ 0
+  pub few : length cs ≤ most
+
 -- some tokens, the table of words, and three buffers in which each text has room
 pub record FewTokens (m cs ns table a b d old : List ℕ) : Type 0 where
   pub tokened : Tokened m cs ns old

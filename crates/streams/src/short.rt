@@ -3,11 +3,7 @@ use sn_text::three::sn_three;
 use standard_text::three::standard_three;
 use text_buffer::run::open_run;
 use text_buffer::three::put_three;
-ghost use Prim.Native.Nat.{_≤_};
-ghost use mathlib.Core.Logic.{_≢_};
-ghost use lib.ListN.{length};
-ghost use Rattle.text_buffer.specs.Words.{Words};
-ghost use Rattle.streams.specs.Pass.{FewTokens, SixTexts, Tokened};
+ghost use Rattle.streams.specs.Pass.{FewTokens, SixTexts, UpTo};
 
 // By way of three buffers, from the tokens of `m`; the length of each text is answered.
 fn put_by_three(
@@ -40,7 +36,7 @@ fn put_by_three(
 
 // .. in buffers of 1,024 bytes, in which 88 tokens have room.
 fn put_in_1k(m: &[u32], cs: &[u8], ns: &[u32], words: &[u32; 192], out: &mut [u8]) -> [usize; 6]
-    requires { ⌜ Tokened (now m) (now cs) (now ns) (now out) × Words (now words) × (length (now cs) ≢ 0) × (length (now cs) ≤ 88) ⌝ }
+    requires { ⌜ UpTo 88 (now m) (now cs) (now ns) (now words) (now out) ⌝ }
     ensures { λ r. ⌜ SixTexts (now (m .entry)) (now (out .entry)) (now (out .exit)) r ⌝ }
 {
     let mut a = [0u8; 1024];
@@ -51,7 +47,7 @@ fn put_in_1k(m: &[u32], cs: &[u8], ns: &[u32], words: &[u32; 192], out: &mut [u8
 
 // .. of 4,096 bytes: 367 tokens.
 fn put_in_4k(m: &[u32], cs: &[u8], ns: &[u32], words: &[u32; 192], out: &mut [u8]) -> [usize; 6]
-    requires { ⌜ Tokened (now m) (now cs) (now ns) (now out) × Words (now words) × (length (now cs) ≢ 0) × (length (now cs) ≤ 367) ⌝ }
+    requires { ⌜ UpTo 367 (now m) (now cs) (now ns) (now words) (now out) ⌝ }
     ensures { λ r. ⌜ SixTexts (now (m .entry)) (now (out .entry)) (now (out .exit)) r ⌝ }
 {
     let mut a = [0u8; 4096];
@@ -62,7 +58,7 @@ fn put_in_4k(m: &[u32], cs: &[u8], ns: &[u32], words: &[u32; 192], out: &mut [u8
 
 // .. of 16,384 bytes: 1,484 tokens.
 fn put_in_16k(m: &[u32], cs: &[u8], ns: &[u32], words: &[u32; 192], out: &mut [u8]) -> [usize; 6]
-    requires { ⌜ Tokened (now m) (now cs) (now ns) (now out) × Words (now words) × (length (now cs) ≢ 0) × (length (now cs) ≤ 1484) ⌝ }
+    requires { ⌜ UpTo 1484 (now m) (now cs) (now ns) (now words) (now out) ⌝ }
     ensures { λ r. ⌜ SixTexts (now (m .entry)) (now (out .entry)) (now (out .exit)) r ⌝ }
 {
     let mut a = [0u8; 16384];
@@ -73,7 +69,7 @@ fn put_in_16k(m: &[u32], cs: &[u8], ns: &[u32], words: &[u32; 192], out: &mut [u
 
 // .. in the smallest in which the tokens have room, since each byte of them is set to 0 first.
 pub fn put_short(m: &[u32], cs: &[u8], ns: &[u32], words: &[u32; 192], out: &mut [u8]) -> [usize; 6]
-    requires { ⌜ Tokened (now m) (now cs) (now ns) (now out) × Words (now words) × (length (now cs) ≢ 0) × (length (now cs) ≤ 1484) ⌝ }
+    requires { ⌜ UpTo 1484 (now m) (now cs) (now ns) (now words) (now out) ⌝ }
     ensures { λ r. ⌜ SixTexts (now (m .entry)) (now (out .entry)) (now (out .exit)) r ⌝ }
 {
     if cs.len() <= 88 {

@@ -18,7 +18,7 @@ slice-aggregate-put-by-three-3 c = search needs
 put-by-three-requires : tie.Need-put-by-three-requires
 put-by-three-requires c κs =
     let p = c .before .before .before .before .before .before .before .before .pre in
-    few-in 16384 (p .0) (p .1) (p .2) (omega (arith, p .3))
+    few-in 16384 p (omega (arith, p .few))
 
 same-length : tie.Need-same-length
 same-length c = search needs
