@@ -96,6 +96,52 @@ pub fn scattered(random: &mut Random) -> Vec<usize> {
     m
 }
 
+/// Numbers of tokens at both sides of those where the pass changes its way of writing texts.
+pub const TOKENS: [usize; 13] = [
+    1, 2, 87, 88, 89, 366, 367, 368, 1483, 1484, 1485, 8192, 8193,
+];
+
+/// A chart of so many tokens, behind a lead-in and before a tail.
+pub fn of_tokens(random: &mut Random, tokens: usize) -> Vec<usize> {
+    let mut m = Vec::new();
+    let lead_in = random.one_of(&ENDS);
+    push(&mut m, random, 0, lead_in);
+    let mut last = 0;
+    for i in 0..tokens {
+        let class = other_class(random, last, i + 1 == tokens);
+        let length = match class {
+            0 => random.one_of(&GAPS),
+            _ => run_length(random),
+        };
+        push(&mut m, random, class, length);
+        last = class;
+    }
+    let tail = random.one_of(&ENDS);
+    push(&mut m, random, 0, tail);
+    m
+}
+
+/// .. as long as the domain allows, all tokens equally long.
+pub fn of_long_tokens(random: &mut Random, tokens: usize) -> Vec<usize> {
+    let mut m = Vec::new();
+    let mut last = 0;
+    for i in 0..tokens {
+        last = other_class(random, last, i + 1 == tokens);
+        push(&mut m, random, last, 1_048_576 / tokens);
+    }
+    m
+}
+
+/// A class that may stand behind the class `last`; the first and the last token are runs.
+fn other_class(random: &mut Random, last: usize, run: bool) -> usize {
+    loop {
+        let class = random.below(5);
+        if class != last && !(run && class == 0) {
+            return class;
+        }
+    }
+}
+
 /// Charts of a length at the domain's edge: quiet, one run, alternating classes, runs and gaps of 1 and 2, and random ones.
 pub fn long(random: &mut Random, length: usize) -> Vec<Vec<usize>> {
     let cycle = |items: &[usize]| items.iter().copied().cycle().take(length).collect();

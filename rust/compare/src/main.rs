@@ -22,14 +22,16 @@ use std::process::ExitCode;
 use std::time::Instant;
 use tally::{Outcome, Tally};
 
-/// How much is compared: small charts by their length, random charts by their number, and long charts of each length. Every
-/// `lent_every`th random chart, and small charts of up to `small_lent` measures, are given lent slices of many lengths.
+/// How much is compared: small charts by their length, random charts by their number, `counted` of each number of tokens, and
+/// long charts of each length. Every `lent_every`th random chart, and small charts of up to `small_lent` measures, are given
+/// lent slices of many lengths.
 struct Extent {
     small: usize,
     small_lent: usize,
     shaped: u64,
     scattered: u64,
     lent_every: u64,
+    counted: usize,
     long: usize,
 }
 
@@ -39,6 +41,7 @@ const FULL: Extent = Extent {
     shaped: 1_000_000,
     scattered: 500_000,
     lent_every: 10,
+    counted: 300,
     long: 7,
 };
 
@@ -48,6 +51,7 @@ const QUICK: Extent = Extent {
     shaped: 30_000,
     scattered: 20_000,
     lent_every: 20,
+    counted: 10,
     long: 2,
 };
 
@@ -109,6 +113,11 @@ fn compare(extent: &Extent, seed: u64, tally: &mut Tally) -> Outcome {
         tally,
         "random charts of up to 12 measures at the class edges",
     );
+    token_counts(extent, random, tally)?;
+    say(
+        tally,
+        "charts of numbers of tokens at which the pass changes its way",
+    );
     domain_edge(extent, random, tally)?;
     say(tally, "charts at the domain's edge");
     Ok(())
@@ -152,6 +161,20 @@ fn random_charts(
 ) -> Outcome {
     for i in 0..count {
         chart(&next(), Lends::around_if(i % lent_every == 0), tally)?;
+    }
+    Ok(())
+}
+
+fn token_counts(extent: &Extent, random: &mut Random, tally: &mut Tally) -> Outcome {
+    for tokens in charts::TOKENS {
+        for _ in 0..extent.counted {
+            chart(&charts::of_tokens(random, tokens), Lends::JustDue, tally)?;
+        }
+        chart(
+            &charts::of_long_tokens(random, tokens),
+            Lends::JustDue,
+            tally,
+        )?;
     }
     Ok(())
 }
