@@ -7,7 +7,7 @@ use mathlib.Core.Logic.{_≢_}
 use mathlib.Core.List.{List, [], _∷_, _++_, append-assoc, append-nil}
 use native.Mathlib.Nat.{zero-add}
 use native.Mathlib.Omega.{arith}
-use lib.ListN.{length, take, drop, getD, length-drop, length-map, replicate, length-replicate}
+use lib.ListN.{length, take, drop, getD, length-drop, length-map}
 use lib.Seq.{length-take-le}
 use Rattle.number.specs.Place.{Room, Wrote}
 use Rattle.number.proofs.Place.{room-first, room-next, wrote, at-start}
@@ -29,19 +29,12 @@ use Rattle.sn_text.specs.SnParts.{snOf}
 use Rattle.standard_text.specs.Standard.{standardFrom}
 use Rattle.breakdown.specs.Forms.{snForm, standardForm, textOf}
 use Rattle.breakdown.proofs.PartByPart.{first-sn, first-standard, first-here, class-here, tokens-behind}
-use Rattle.streams.specs.Pass.{Tokened, UpTo, FewTokens, SixTexts}
+use Rattle.streams.specs.Pass.{Tokened, SixTexts}
 use Rattle.streams.proofs.Pass.{source, made}
 
 tokens-total : (m : List ℕ) → total (tokens (classes m)) ≤ length m
 unfolding tokens
 tokens-total m = rw total-runs (omega (arith, active-short (classes m), length-map m classOf))
-
--- buffers of one size
-pub few-in : {most : ℕ} {m cs ns table old : List ℕ} (size : ℕ) → UpTo most m cs ns table old → 11 * length cs + 52 ≤ size
-    → FewTokens m cs ns table (replicate size 0) (replicate size 0) (replicate size 0) old
-few-in size u l =
-    let e = length-replicate {A = ℕ} size 0 in
-    record { tokened = u .tokened; some = u .some; words = u .words; first = rw e l; second = rw e l; third = rw e l }
 
 -- the six texts are three and three
 threes : (m : List ℕ) → endToEnd passKinds m

@@ -115,7 +115,7 @@ fn put_texts(m: &[u32], classes: &[u8], lengths: &[u32], dense: bool, out: &mut 
     ensures { λ r. ⌜ SixTexts (now (m .entry)) (now (out .entry)) (now (out .exit)) r ⌝ }
 {
     let words = words();
-    if classes.len() != 0 && classes.len() <= 1484 {
+    if classes.len() != 0 && classes.len() <= 88 {
         return put_short(m, classes, lengths, &words, out);
     }
     let mut buf = [0u8; 2048];

@@ -35,7 +35,7 @@ fn put_by_three(
 }
 
 // .. in buffers of 1,024 bytes, in which 88 tokens have room.
-fn put_in_1k(m: &[u32], cs: &[u8], ns: &[u32], words: &[u32; 192], out: &mut [u8]) -> [usize; 6]
+pub fn put_short(m: &[u32], cs: &[u8], ns: &[u32], words: &[u32; 192], out: &mut [u8]) -> [usize; 6]
     requires { ⌜ UpTo 88 (now m) (now cs) (now ns) (now words) (now out) ⌝ }
     ensures { λ r. ⌜ SixTexts (now (m .entry)) (now (out .entry)) (now (out .exit)) r ⌝ }
 {
@@ -43,40 +43,4 @@ fn put_in_1k(m: &[u32], cs: &[u8], ns: &[u32], words: &[u32; 192], out: &mut [u8
     let mut b = [0u8; 1024];
     let mut c = [0u8; 1024];
     put_by_three(m, cs, ns, words, &mut a, &mut b, &mut c, out)
-}
-
-// .. of 4,096 bytes: 367 tokens.
-fn put_in_4k(m: &[u32], cs: &[u8], ns: &[u32], words: &[u32; 192], out: &mut [u8]) -> [usize; 6]
-    requires { ⌜ UpTo 367 (now m) (now cs) (now ns) (now words) (now out) ⌝ }
-    ensures { λ r. ⌜ SixTexts (now (m .entry)) (now (out .entry)) (now (out .exit)) r ⌝ }
-{
-    let mut a = [0u8; 4096];
-    let mut b = [0u8; 4096];
-    let mut c = [0u8; 4096];
-    put_by_three(m, cs, ns, words, &mut a, &mut b, &mut c, out)
-}
-
-// .. of 16,384 bytes: 1,484 tokens.
-fn put_in_16k(m: &[u32], cs: &[u8], ns: &[u32], words: &[u32; 192], out: &mut [u8]) -> [usize; 6]
-    requires { ⌜ UpTo 1484 (now m) (now cs) (now ns) (now words) (now out) ⌝ }
-    ensures { λ r. ⌜ SixTexts (now (m .entry)) (now (out .entry)) (now (out .exit)) r ⌝ }
-{
-    let mut a = [0u8; 16384];
-    let mut b = [0u8; 16384];
-    let mut c = [0u8; 16384];
-    put_by_three(m, cs, ns, words, &mut a, &mut b, &mut c, out)
-}
-
-// .. in the smallest in which the tokens have room, since each byte of them is set to 0 first.
-pub fn put_short(m: &[u32], cs: &[u8], ns: &[u32], words: &[u32; 192], out: &mut [u8]) -> [usize; 6]
-    requires { ⌜ UpTo 1484 (now m) (now cs) (now ns) (now words) (now out) ⌝ }
-    ensures { λ r. ⌜ SixTexts (now (m .entry)) (now (out .entry)) (now (out .exit)) r ⌝ }
-{
-    if cs.len() <= 88 {
-        return put_in_1k(m, cs, ns, words, out);
-    }
-    if cs.len() <= 367 {
-        return put_in_4k(m, cs, ns, words, out);
-    }
-    put_in_16k(m, cs, ns, words, out)
 }

@@ -97,9 +97,7 @@ pub fn scattered(random: &mut Random) -> Vec<usize> {
 }
 
 /// Numbers of tokens at both sides of those where the pass changes its way of writing texts.
-pub const TOKENS: [usize; 13] = [
-    1, 2, 87, 88, 89, 366, 367, 368, 1483, 1484, 1485, 8192, 8193,
-];
+pub const TOKENS: [usize; 8] = [1, 2, 87, 88, 89, 90, 8192, 8193];
 
 /// A chart of so many tokens, behind a lead-in and before a tail.
 pub fn of_tokens(random: &mut Random, tokens: usize) -> Vec<usize> {
