@@ -20,7 +20,7 @@ use Rattle.rules.specs.declared.RunDensity.the-variants.{Run32, Run24, Run20, R
 use Rattle.rules.proofs.Domain.{within}
 use Rattle.rules.proofs.Steps.{active-part}
 use Rattle.measures.specs.Answers.{hasStream}
-use Rattle.segments.specs.Promises.{refusal, noSegment, nthSegment, empties}
+use Rattle.segments.specs.Promises.{segmentsNo, noSegment, nthSegment, empties}
 use Rattle.segments.specs.declared.SegmentsAnswer.{SegmentsAnswer}
 use Rattle.segments.specs.declared.NthSegment.{NthSegment}
 use Rattle.record.specs.Record.{fieldsOf, densities, nameOf, recordNo}
@@ -86,7 +86,7 @@ all-accepted =
           let z : q ≡ 0 = sym (ap (λ (w : LabelWritten). w .refused) (p .answer)) ∙ h in
           (p .answer ∙ rw (kept q (labelLevel (labelChoice width m)) 0 z, kept q (length (labelText (labelChoice width m) m)) 0 z, z), p .bytes ∙ kept q _ _ z);
       segments = λ m old new r p h.
-          let q = refusal m old in
+          let q = segmentsNo m old in
           let z : q ≡ 0 = sym (ap (λ (w : SegmentsAnswer). w .refused) (p .answer)) ∙ h in
           (ap (λ (w : SegmentsAnswer). w .count) (p .answer) ∙ kept q _ _ z, p .records ∙ kept q _ _ z);
       chartRecord = λ bytes old new r p h.
@@ -102,7 +102,7 @@ all-accepted =
           let e = kept (firstNo (inDomain v ∷ [])) v [] (within v h) in
           (s .token ∙ ap (stepAt 0) e, s .left ∙ ap afterStep e);
       segmentAt = λ k m h. kept-segment (firstNo (inDomain m ∷ [])) _ h;
-      firstSegments = λ m h. kept (refusal m empties) _ _ h;
+      firstSegments = λ m h. kept (segmentsNo m empties) _ _ h;
       sheet = λ input r p. rw (p .answer) (take-append-seam (sheetBytes input) _);
       class = λ d r s p q. one-class r s (p ∙ sym q);
       activeRange = active-part;

@@ -12,7 +12,7 @@ use Rattle.rules.specs.Chart.{inDomain, classes, tokens, counts, noCounts}
 use Rattle.rules.specs.Texts.{passKinds, lengthsOf}
 use Rattle.rules.specs.Calls.{segments, share, labelChoice}
 use Rattle.measures.specs.Answers.{hasStream}
-use Rattle.segments.specs.Promises.{refusal, noSegment, firstOf, nthSegment}
+use Rattle.segments.specs.Promises.{segmentsNo, noSegment, firstSegment, nthSegment}
 use Rattle.rules.specs.declared.StreamSegment.{StreamSegment}
 use Rattle.segments.specs.declared.SegmentsAnswer.{SegmentsAnswer}
 use Rattle.segments.specs.declared.NthSegment.{NthSegment}
@@ -29,7 +29,7 @@ refused : {A : Type 0} (q : ℕ) (a b : A) → q ≢ 0 → accepted q a b ≡ b
 refused zero a b h = absurd (h refl)
 refused (suc q) a b h = refl
 
-first-accepted : (ss : List StreamSegment) → firstOf ss .refused ≡ 0
+first-accepted : (ss : List StreamSegment) → firstSegment ss .refused ≡ 0
 first-accepted [] = refl
 first-accepted (s ∷ ss) = refl
 
@@ -60,7 +60,7 @@ refusals =
           let n : q ≢ 0 = λ z. h (e ∙ z) in
           (p .answer ∙ rw (e, refused q (labelLevel (labelChoice width m)) 0 n, refused q (length (labelText (labelChoice width m) m)) 0 n), p .bytes ∙ refused q _ _ n);
       segments = λ m old new r p h.
-          let q = refusal m old in
+          let q = segmentsNo m old in
           let e : r .refused ≡ q = ap (λ (w : SegmentsAnswer). w .refused) (p .answer) in
           let n : q ≢ 0 = λ z. h (e ∙ z) in
           (p .answer ∙ rw (e, refused q (length (segments (classes m))) 0 n), p .records ∙ refused q _ _ n);
@@ -73,5 +73,5 @@ refusals =
       counts = λ m h. refused (firstNo (inDomain m ∷ [])) (counts (classes m)) noCounts h;
       share = λ m h. refused (firstNo (inDomain m ∷ hasStream m ∷ [])) (share (classes m)) 0 h;
       alike = λ a b h. refused (firstNo (inDomain a ∷ inDomain b ∷ [])) _ false h;
-      segmentAt = λ k m h. no-segment (firstNo (inDomain m ∷ [])) (firstOf (drop k (segments (classes m)))) (first-accepted (drop k (segments (classes m)))) h;
+      segmentAt = λ k m h. no-segment (firstNo (inDomain m ∷ [])) (firstSegment (drop k (segments (classes m)))) (first-accepted (drop k (segments (classes m)))) h;
     }

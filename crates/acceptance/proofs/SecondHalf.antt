@@ -26,7 +26,7 @@ use Rattle.record.specs.Record.{fieldsOf, nameOf}
 use Rattle.sheet_lines.specs.Sheet.{line, countsLine, textLines, sheetNo, sheetKinds, sheetBytes, chartOf, Printed}
 use Rattle.sheet_lines.specs.declared.Sheet.{Sheet}
 use Rattle.sheet_lines.proofs.Lines.{counts-line, one-line-name, sheet-lines}
-use Rattle.acceptance.specs.SecondHalf.{nth, KindAt, afterLine, lineAt, Wrote, single, three, pass, label, sheet, SecondHalf}
+use Rattle.acceptance.specs.SecondHalf.{nth, KindAt, afterLine, lineAt, TextWritten, single, three, pass, label, sheet, SecondHalf}
 use Rattle.acceptance.proofs.Written.{marked-off, nth-text, after-line, line-text}
 
 -- several texts end to end, refused by the number q or not
@@ -75,7 +75,7 @@ printed-text i k input r h p e =
     ∙ ap (lineAt i) (after-line texts (counts-line (counts (classes m))))
     ∙ line-text sheetKinds i k m h
 
-pub written-text : {k : Kind} {m x : List ℕ} → Wrote k m x → x ≡ text k m
+pub written-text : {k : Kind} {m x : List ℕ} → TextWritten k m x → x ≡ text k m
 written-text (single k m old new r p e) =
     marked-off _ (text k m) old new (r .length) (sym (ap (λ (w : Written). w .refused) (p .answer)) ∙ e) (ap (λ (w : Written). w .length) (p .answer)) (p .bytes)
 written-text (three ks i k m old new r h p e) =

@@ -52,24 +52,24 @@ lineAt zero bytes = firstLine bytes
 lineAt (suc i) bytes = lineAt i (afterLine bytes)
 
 -- `Wrote k m text`: an accepted call wrote the text of kind k of the chart m as these bytes
-pub data Wrote : Kind → List ℕ → List ℕ → Type 0 where
+pub data TextWritten : Kind → List ℕ → List ℕ → Type 0 where
   -- generate_breakdown, stream_breakdown
-  single : (k : Kind) (m old new : List ℕ) (r : Written) → Breakdown k m old new r → r .refused ≡ 0 → Wrote k m (take (r .length) new)
+  single : (k : Kind) (m old new : List ℕ) (r : Written) → Breakdown k m old new r → r .refused ≡ 0 → TextWritten k m (take (r .length) new)
   -- generate_breakdowns, stream_breakdowns
   three : (ks : List Kind) (i : ℕ) (k : Kind) (m old new : List ℕ) (r : ThreeWritten) → KindAt ks i k → Breakdowns ks m old new r → r .refused ≡ 0
-      → Wrote k m (nth (r .lengths) i new)
+      → TextWritten k m (nth (r .lengths) i new)
   -- compute_stream_outputs
   pass : (i : ℕ) (k : Kind) (m cs cs′ ns ns′ old new : List ℕ) (r : StreamOutputs) → KindAt passKinds i k → Outputs m cs cs′ ns ns′ old new r → r .refused ≡ 0
-      → Wrote k m (nth (r .lengths) i new)
+      → TextWritten k m (nth (r .lengths) i new)
   -- label, at the level that it answers
   label : (width : ℕ) (l : StreamBreakdownLevel) (m old new : List ℕ) (r : LabelWritten) → Label width m old new r → r .refused ≡ 0 → r .level ≡ levelNumber l
-      → Wrote (standard l) m (take (r .length) new)
+      → TextWritten (standard l) m (take (r .length) new)
   -- sheet: the texts are its lines from the third on
   sheet : (i : ℕ) (k : Kind) (input : List ℕ) (r : Sheet) → KindAt sheetKinds i k → Printed input r → sheetNo input ≡ 0
-      → Wrote k (chartOf input) (lineAt (suc (suc i)) (take (r .length) (r .bytes)))
+      → TextWritten k (chartOf input) (lineAt (suc (suc i)) (take (r .length) (r .bytes)))
 
 pub record SecondHalf : Type 0 where
-  pub exactly : (k : Kind) (a b x y : List ℕ) → Wrote k a x → Wrote k b y → (x ≡ y) ↔ (reduced k (classes a) ≡ reduced k (classes b))
+  pub exactly : (k : Kind) (a b x y : List ℕ) → TextWritten k a x → TextWritten k b y → (x ≡ y) ↔ (reduced k (classes a) ≡ reduced k (classes b))
   -- "For the standard detailed text that means: neither has a stream measure, or their active parts are equally long and have stream measures
   -- at the same places, counted from the part's first measure."
-  pub detailed : (a b x y : List ℕ) → Wrote (standard Level.Detailed) a x → Wrote (standard Level.Detailed) b y → (x ≡ y) ↔ SameStreams (classes a) (classes b)
+  pub detailed : (a b x y : List ℕ) → TextWritten (standard Level.Detailed) a x → TextWritten (standard Level.Detailed) b y → (x ≡ y) ↔ SameStreams (classes a) (classes b)

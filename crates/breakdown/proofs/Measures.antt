@@ -7,8 +7,8 @@ use mathlib.Core.List.{List, [], _∷_, _++_}
 use native.Mathlib.Omega.{arith}
 use lib.ListN.{length, getD}
 use Rattle.rules.specs.Chart.{Token, token, class}
-use Rattle.measures.specs.Scan.{paired}
-use Rattle.text_buffer.specs.Behind.{Behind}
+use Rattle.rules.specs.Slices.{paired}
+use Rattle.text_buffer.specs.MayFollow.{MayFollow}
 use Rattle.text_buffer.proofs.Reading.{behind-low}
 
 -- the class of the last token, or c if there is none
@@ -17,16 +17,16 @@ lastClass c [] = c
 lastClass c (t ∷ ts) = lastClass (class t) ts
 
 -- of some tokens that others follow: the first ones are such tokens themselves, where the last of them is a run, and so are the others
-pub behind-front : (c : ℕ) (ts us : List Token) → Behind c (ts ++ us) → lastClass c ts ≢ 0 → Behind c ts
+pub behind-front : (c : ℕ) (ts us : List Token) → MayFollow c (ts ++ us) → lastClass c ts ≢ 0 → MayFollow c ts
 behind-front c [] us h r = (r, behind-low c us h)
 behind-front c (token d n s ∷ ts) us h r = (h .0, behind-front d ts us (h .1) r, h .2)
 
-pub behind-back : (c : ℕ) (ts us : List Token) → Behind c (ts ++ us) → Behind (lastClass c ts) us
+pub behind-back : (c : ℕ) (ts us : List Token) → MayFollow c (ts ++ us) → MayFollow (lastClass c ts) us
 behind-back c [] us h = h
 behind-back c (token d n s ∷ ts) us h = behind-back d ts us (h .1)
 
 -- behind a run it is the same, whatever its class
-pub behind-any : (c d : ℕ) (ts : List Token) → d ≢ 0 → d ≤ 4 → Behind c ts → Behind d ts
+pub behind-any : (c d : ℕ) (ts : List Token) → d ≢ 0 → d ≤ 4 → MayFollow c ts → MayFollow d ts
 behind-any c d [] r l h = (r, l)
 behind-any c d (token e n s ∷ ts) r l h = (λ z. (r, h .0 z .1), h .1, l)
 

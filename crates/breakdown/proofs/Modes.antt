@@ -24,8 +24,8 @@ use Rattle.rules.specs.declared.StreamBreakdownLevel.{StreamBreakdownLevel}
 use Rattle.rules.specs.declared.StreamBreakdownLevel.the-variants as Level
 use Rattle.rules.proofs.Shape.{class-below}
 use Rattle.rules.proofs.Steps.{joins-long, short-one, short-long, Closed, tokens-closed, active-part}
-use Rattle.measures.specs.Scan.{paired}
-use Rattle.text_buffer.specs.Behind.{Behind, Alternates}
+use Rattle.rules.specs.Slices.{paired}
+use Rattle.text_buffer.specs.MayFollow.{MayFollow, Alternates}
 use Rattle.sn_text.specs.Sn.{limitOf, snAt}
 use Rattle.standard_text.specs.Standard.{glue, merged, gapItem, standardOf, totalText}
 use Rattle.text_buffer.specs.Parts.{Tokens}
@@ -51,7 +51,7 @@ low-last : (cs : List ℕ) → Each Low cs → Each Low (toLast cs)
 low-last [] l = none
 low-last (c ∷ cs) (h & l) = low-keep c (toLast cs) h (low-last cs l)
 
-behind-runs : (b c n : ℕ) (cs : List ℕ) (t : Token) → b ≢ c → 1 ≤ n → b ≤ 4 → c ≤ 4 → Each Low cs → Closed t (runsFrom c n cs) → Behind b (runsFrom c n cs)
+behind-runs : (b c n : ℕ) (cs : List ℕ) (t : Token) → b ≢ c → 1 ≤ n → b ≤ 4 → c ≤ 4 → Each Low cs → Closed t (runsFrom c n cs) → MayFollow b (runsFrom c n cs)
 behind-runs b c n [] t d h lb lc ls e = (λ z. (λ y. d (y ∙ sym z), h), (e, lc), lb)
 behind-runs b c n (x ∷ cs) t d h lb lc (lx & ls) e =
     split (eqb c x)
@@ -87,7 +87,7 @@ module _ (chart : List ℕ) where
 abbrev Long : Token → Type 0
 Long t = class t ≡ 0 → 1 ≤ len t
 
-behind-long : (c : ℕ) (ts : List Token) → Behind c ts → Each Long ts
+behind-long : (c : ℕ) (ts : List Token) → MayFollow c ts → Each Long ts
 behind-long c [] h = none
 behind-long c (token d n s ∷ ts) h = (λ e. h .0 e .1) & behind-long d ts (h .1)
 

@@ -15,8 +15,9 @@ use Rattle.number.proofs.Split.{split}
 use Rattle.rules.specs.Chart.{classOf, classes, Token, token, class, runsFrom, runs}
 use Rattle.rules.specs.Calls.{stepAt}
 use Rattle.rules.specs.declared.ViewToken.{ViewToken}
-use Rattle.measures.specs.Scan.{paired, Ahead, FirstTokens}
-use Rattle.text_buffer.specs.Behind.{Behind}
+use Rattle.rules.specs.Slices.{paired}
+use Rattle.measures.specs.Scan.{RoomForTokens, FirstTokens}
+use Rattle.text_buffer.specs.MayFollow.{MayFollow}
 use Rattle.standard_text.specs.Standard.{glue, standardFrom, standardPart}
 use Rattle.text_buffer.specs.Parts.{Tokens, TokensBehind, PartWritten}
 use Rattle.sn_text.proofs.SnThree.{last-shown}
@@ -81,14 +82,14 @@ abbrev lastOf : ℕ → List ℕ → ℕ
 lastOf c [] = c
 lastOf c (d ∷ cs) = lastOf d cs
 
-ends : (b c n : ℕ) (cs : List ℕ) → Behind b (runsFrom c n cs) → lastOf c cs ≢ 0
+ends : (b c n : ℕ) (cs : List ℕ) → MayFollow b (runsFrom c n cs) → lastOf c cs ≢ 0
 ends b c n [] h = h .1 .0
 ends b c n (d ∷ cs) h =
     split (eqb c d)
     (λ e. rw (← (eqb-true c d e)) (ends b c (suc n) cs (rw e at h)))
     (λ e. ends c d 1 cs ((rw e at h) .1))
 
-pub ends-stream : (b : ℕ) (m : List ℕ) → 0 < length m → Behind b (runs (classes m)) → classOf (getD m (length m - 1) 0) ≢ 0
+pub ends-stream : (b : ℕ) (m : List ℕ) → 0 < length m → MayFollow b (runs (classes m)) → classOf (getD m (length m - 1) 0) ≢ 0
 ends-stream b [] h g = absurd (omega arith)
 ends-stream b (d ∷ m) h g =
     let e : suc (length m) - 1 ≡ length m = omega arith in
@@ -102,7 +103,7 @@ ends-stream b (d ∷ m) h g =
 
 pub record Along (m : List ℕ) (f : Form) (r : Run) (i : ℕ) : Type 0 where
   pub run : Open f r
-  pub behind : Behind (r .class) (runs (classes (drop i m)))
+  pub behind : MayFollow (r .class) (runs (classes (drop i m)))
   pub small : r .length ≤ 1099511627776 * i
   pub within : i ≤ length m
 
@@ -115,7 +116,7 @@ module _ {m : List ℕ} (a : ActiveMeasures m) (h : 0 < length m) (t : ViewToken
   step : Stepped m t
   step = rw e (stepped m h)
 
-  first-behind : Behind 0 (token (t .class) (t .length) false ∷ runs (classes (drop (t .length) m)))
+  first-behind : MayFollow 0 (token (t .class) (t .length) false ∷ runs (classes (drop (t .length) m)))
   first-behind = rw (step .rest) at (a .alternates)
 
   pub first-class : (t .class ≢ 0) × (t .class ≤ 4)
@@ -149,7 +150,7 @@ module _ {m : List ℕ} {f : Form} {r : Run} {i : ℕ} (a : Along m f r i) where
   whole : from m i ≡ drop i m
   whole = take-all (length m - i) (drop i m) (simp length-drop (omega (arith, a .within)))
 
-  pub ahead : {cs ns : List ℕ} → length m ≤ 1048576 → i < length m → length ns ≡ length cs → 32 ≤ length cs → Ahead (from m i) cs ns
+  pub ahead : {cs ns : List ℕ} → length m ≤ 1048576 → i < length m → length ns ≡ length cs → 32 ≤ length cs → RoomForTokens (from m i) cs ns
   ahead few h e l =
       let n = length-drop i m in
       let some : 0 < length (drop i m) = omega arith in
@@ -182,7 +183,7 @@ module _ {m : List ℕ} {f : Form} {r : Run} {i : ℕ} (a : Along m f r i) where
           rw (last-paired (r .class) (take (t .tokens) cs) (take (t .tokens) ns) (t .tokens - 1) (longC ∙ sym longN) (longC ∙ omega (arith, g .some)), getD-take (t .tokens) cs (t .tokens - 1) 0 (omega (arith, g .some)))
           (g .run)
 
-      behind : Behind (r .class) (paired (take (t .tokens) cs) (take (t .tokens) ns) ++ more)
+      behind : MayFollow (r .class) (paired (take (t .tokens) cs) (take (t .tokens) ns) ++ more)
       behind = rw rest at (a .behind)
 
       pub part-tokens : TokensBehind (r .class) (take (t .tokens) cs) (take (t .tokens) ns)
@@ -249,7 +250,7 @@ module _ {cs ns : List ℕ} (t : Tokens cs ns) where
             let b : suc (length ns) - 1 ≡ length ns = omega arith in
             rw (a, b, take-length cs, take-length ns)
 
-    all-behind : Behind 0 (token (getD cs 0 0) (getD ns 0 0) false ∷ paired backC backN)
+    all-behind : MayFollow 0 (token (getD cs 0 0) (getD ns 0 0) false ∷ paired backC backN)
     all-behind = rw first-here at (t .alternates)
 
     pub class-here : (getD cs 0 0 ≢ 0) × (getD cs 0 0 ≤ 4)

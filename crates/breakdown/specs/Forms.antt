@@ -10,8 +10,8 @@ use Rattle.rules.specs.Chart.{classes, Token, token, runs}
 use Rattle.rules.specs.declared.Kind.{Kind}
 use Rattle.rules.specs.declared.Kind.the-variants.{Sn as sn, Standard as standard}
 use Rattle.rules.specs.declared.StreamBreakdownLevel.the-variants as Level
-use Rattle.measures.specs.Scan.{paired}
-use Rattle.text_buffer.specs.Behind.{Alternates}
+use Rattle.rules.specs.Slices.{paired}
+use Rattle.text_buffer.specs.MayFollow.{Alternates}
 use Rattle.sn_text.specs.Sn.{limitOf}
 use Rattle.standard_text.specs.Standard.{standardOf, standardFrom}
 use Rattle.sn_text.specs.SnParts.{snOf}

@@ -21,7 +21,7 @@ ghost use mathlib.Core.Logic.{_≢_};
 ghost use lib.ListN.{length, take};
 ghost use Rattle.number.specs.Place.{Room, Wrote};
 ghost use Rattle.rules.specs.Chart.{classes, runs};
-ghost use Rattle.measures.specs.Scan.{paired};
+ghost use Rattle.rules.specs.Slices.{paired};
 ghost use Rattle.text_buffer.specs.Buffer.{Added, Grown, Ready, goesOn};
 ghost use Rattle.text_buffer.specs.Parts.{Tokens, TokensBehind, PartRoom, PartWritten};
 ghost use Rattle.breakdown.specs.Forms.{formWith, textOf, openText, partText, Open, OpenNext, FirstRun, ActiveMeasures};

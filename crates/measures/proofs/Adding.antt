@@ -11,11 +11,11 @@ use lib.ListN.{length, drop, getD}
 use borrow.Author.Tests.{ne-eqb}
 use Rattle.rules.specs.Chart.{Token, token, wideGaps}
 use Rattle.number.proofs.Split.{split}
-use Rattle.rules.proofs.Cost.{total}
+use Rattle.rules.specs.Slices.{paired, total}
 use Rattle.measures.specs.Sums.{held, wideOf, sumsOf}
-use Rattle.measures.specs.Scan.{paired, Paired}
+use Rattle.measures.specs.Scan.{Paired}
 use Rattle.measures.proofs.Counted.{held-most, wide-most}
-use Rattle.measures.proofs.Pairs.{slices-next, none-left}
+use Rattle.rules.proofs.Pairs.{slices-next, none-left}
 
 total-drop : (i : ℕ) (ts : List Token) → total (drop i ts) ≤ total ts
 total-drop zero ts = omega arith

@@ -10,9 +10,9 @@ use lib.ListN.{length, length-drop, length-map}
 use borrow.Author.Tests.{eqb-true, ne-eqb}
 use Rattle.rules.specs.Chart.{Token, token, class, len, leadIn, fromFirst, keep, toLast, active, runsFrom, runs, count, streams, wideGaps, counts, noCounts, classes, tokens}
 use Rattle.number.proofs.Split.{split}
-use Rattle.rules.proofs.Cost.{total, total-runs}
+use Rattle.rules.specs.Slices.{paired, total}
+use Rattle.rules.proofs.Cost.{total-runs}
 use Rattle.measures.specs.Sums.{held, wideOf, Summed}
-use Rattle.measures.specs.Scan.{paired}
 use Rattle.measures.specs.declared.counts.Sums.{Sums}
 use Rattle.measures.proofs.Part.{first-drop, part-within, active-length}
 

@@ -14,15 +14,12 @@ use lib.ListN.{length, take, drop, getD, length-append, length-drop, length-map}
 use lib.Seq.{append-snoc, drop-length}
 use Rattle.number.proofs.Split.{split}
 use Rattle.rules.specs.Chart.{Token, token, class, len, classOf, classes, runsFrom, runs}
-use Rattle.rules.proofs.Cost.{total, total-runs}
+use Rattle.rules.specs.Slices.{paired, total}
+use Rattle.rules.proofs.Cost.{total-runs, total-append}
 use Rattle.rules.proofs.Steps.{map-drop}
-use Rattle.measures.specs.Scan.{paired, FirstRuns, Ahead, FirstTokens}
+use Rattle.measures.specs.Scan.{FirstRuns, RoomForTokens, FirstTokens}
 use Rattle.measures.specs.declared.scan.Taken.{Taken}
 use Rattle.measures.proofs.Part.{class-of-place}
-
-pub total-append : (ts us : List Token) → total (ts ++ us) ≡ total ts + total us
-total-append [] us = omega arith
-total-append (token c n s ∷ ts) us = omega (arith, total-append ts us)
 
 pub some-run : (c n : ℕ) (cs : List ℕ) → 0 < length (runsFrom c n cs)
 some-run c n [] = omega arith
@@ -142,7 +139,7 @@ module _ (m cs ns : List ℕ) where
       (last-class (classes m) (paired (take k cs) (take k ns)) (token (getD cs k 0) (getD ns k 0) false) (rw drop-length at (last-apart k (length m) e h g)))
 
 -- `tokens_into`: the first runs, and where the last of them is a break it is given back
-module _ {m cs₀ cs ns₀ ns : List ℕ} {r : Taken} (a : Ahead m cs₀ ns₀) (w : FirstRuns m (length cs₀ - 17) cs₀ cs ns₀ ns r) (longC : length cs ≡ length cs₀) (longN : length ns ≡ length ns₀) where
+module _ {m cs₀ cs ns₀ ns : List ℕ} {r : Taken} (a : RoomForTokens m cs₀ ns₀) (w : FirstRuns m (length cs₀ - 17) cs₀ cs ns₀ ns r) (longC : length cs ≡ length cs₀) (longN : length ns ≡ length ns₀) where
   enough : r .tokens ≤ length ns
   enough = omega arith
 

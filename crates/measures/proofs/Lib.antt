@@ -5,8 +5,7 @@ pub mod Counted
 pub mod Tallied
 pub mod Table
 pub mod Front
-pub mod Going
-pub mod Pairs
+pub mod ScanInvariant
 pub mod Adding
 pub mod Written
 pub mod Shared

@@ -13,17 +13,11 @@ use borrow.Author.Tests.{eq-eqb, ne-eqb}
 use Rattle.number.proofs.Split.{split}
 use Rattle.rules.specs.Chart.{classOf, classes}
 use Rattle.rules.specs.Calls.{stepAt}
-use Rattle.rules.proofs.View.{leading, first-run}
-
-leading-short : (c : ℕ) (cs : List ℕ) → leading c cs ≤ length cs
-leading-short c [] = omega arith
-leading-short c (d ∷ cs) = split (eqb c d) (λ e. rw e (omega (arith, leading-short c cs))) (λ e. rw e (omega arith))
+use Rattle.rules.specs.Slices.{leading}
+use Rattle.rules.proofs.View.{first-run}
 
 module _ (m : List ℕ) (i : ℕ) where
   module _ (c : ℕ) where
-    pub run-fits : i ≤ length m → i + leading c (classes (drop i m)) ≤ length m
-    run-fits h = omega (arith, leading-short c (classes (drop i m)), length-map (drop i m) classOf, length-drop i m)
-
     -- a measure of another class ends the run
     pub run-stop : i < length m → (c ≡ classOf (getD m i 0) → ⊥) → leading c (classes (drop i m)) ≡ 0
     run-stop h other = rw (drop-cons m i 0, ne-eqb _ _ other)

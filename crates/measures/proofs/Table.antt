@@ -9,7 +9,8 @@ use mathlib.Core.List.{List}
 use lib.ListN.{getD, List·getD-map}
 use Rattle.rules.specs.Chart.{classOf}
 use Rattle.rules.proofs.Steps.{class-4}
-use Rattle.measures.specs.Scan.{upFrom, classTable}
+use Rattle.rules.specs.Slices.{upFrom}
+use Rattle.measures.specs.Scan.{classTable}
 
 at : (i n k : ℕ) → k < n → getD (upFrom i n) k 0 ≡ i + k
 at i zero k h = absurd (not-suc-le-zero h)

@@ -12,7 +12,7 @@ pub record Block (m : List ℕ) (i n lo more : ℕ) : Type 0 where
   pub fit : lo + more < 2 ^ 32
 
 -- a place of the chart, its end included, and bounds that fit a u32
-pub record Bounds (m : List ℕ) (from lo more : ℕ) : Type 0 where
+pub record SkipAsked (m : List ℕ) (from lo more : ℕ) : Type 0 where
   pub within : from ≤ length m
   pub fit : lo + more < 2 ^ 32
 

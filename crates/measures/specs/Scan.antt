@@ -8,16 +8,11 @@ use mathlib.Core.List.{List, [], _∷_, _++_, map}
 use lib.ListN.{length, take, drop, getD}
 use Rattle.number.specs.Questions.{filled}
 use Rattle.rules.specs.Chart.{classOf, classes, Token, token, class, len, runsFrom, runs, tokens, counts}
-use Rattle.rules.proofs.Cost.{total}
+use Rattle.rules.specs.Slices.{paired, total, upFrom}
 use Rattle.measures.specs.declared.scan.Bounds.{Bounds}
 use Rattle.measures.specs.declared.scan.Pending.{Pending}
 use Rattle.measures.specs.declared.scan.ScanAnswer.{ScanAnswer}
 use Rattle.measures.specs.declared.scan.Taken.{Taken}
-
--- the n numbers from i on
-abbrev pub upFrom : ℕ → ℕ → List ℕ
-upFrom i zero = []
-upFrom i (suc n) = i ∷ upFrom (suc i) n
 
 -- the class of each density up to 32
 abbrev pub classTable : List ℕ
@@ -35,11 +30,11 @@ pub record OfClass (m : List ℕ) (from c r : ℕ) : Type 0 where
   pub each : (i : ℕ) → from ≤ i → i < r → classOf (getD m i 0) ≡ c
 
 -- a place in s for each run of m, or for `most` of them, a block of 16 more and the pending one
-abbrev pub Room : List ℕ → ℕ → List ℕ → Type 0
-Room m most s = (length (runs (classes m)) ≤ length s) ⊎ (most + 17 ≤ length s)
+abbrev pub RoomForRuns : List ℕ → ℕ → List ℕ → Type 0
+RoomForRuns m most s = (length (runs (classes m)) ≤ length s) ⊎ (most + 17 ≤ length s)
 
 -- `done` is written, and behind it a run of n measures of class c before place i, which is pending
-pub record Going (m cs₀ ns₀ cs ns : List ℕ) (most c n k i : ℕ) : Type 0 where
+pub record ScanInvariant (m cs₀ ns₀ cs ns : List ℕ) (most c n k i : ℕ) : Type 0 where
   pub done : List Token
   pub whole : done ++ runsFrom c n (drop i (classes m)) ≡ runs (classes m)
   pub inClasses : cs ≡ filled cs₀ (map class done ++ (c ∷ []))
@@ -50,13 +45,13 @@ pub record Going (m cs₀ ns₀ cs ns : List ℕ) (most c n k i : ℕ) : Type 0 
   pub sum : total done + n ≡ i
   pub within : i ≤ length m
   pub low : k < most + 17
-  pub roomC : Room m most cs₀
-  pub roomN : Room m most ns₀
+  pub roomC : RoomForRuns m most cs₀
+  pub roomN : RoomForRuns m most ns₀
 
 -- .. and so it is q measures on, where there is room for as many tokens
 abbrev pub Onward : List ℕ → ℕ → ℕ → List ℕ → List ℕ → List ℕ → List ℕ → ℕ → ℕ → ℕ → ℕ → ℕ → ℕ → Type 0
 Onward m i q cs₀ cs ns₀ ns c₀ n₀ k₀ c n k =
-    (most : ℕ) (old new : List ℕ) → k₀ + q < most + 17 → Going m old new cs₀ ns₀ most c₀ n₀ k₀ i → Going m old new cs ns most c n k (i + q)
+    (most : ℕ) (old new : List ℕ) → k₀ + q < most + 17 → ScanInvariant m old new cs₀ ns₀ most c₀ n₀ k₀ i → ScanInvariant m old new cs ns most c n k (i + q)
 
 -- `count` measures from `from` on, before a pending run, and room for as many tokens
 pub record Steps (m : List ℕ) (from count : ℕ) (cs ns table : List ℕ) (p : Pending) : Type 0 where
@@ -67,16 +62,16 @@ pub record Steps (m : List ℕ) (from count : ℕ) (cs ns table : List ℕ) (p :
   pub low : p .place + count < most + 17
   pub old : List ℕ
   pub new : List ℕ
-  pub going : Going m old new cs ns most (p .class) (p .length) (p .place) from
+  pub invariant : ScanInvariant m old new cs ns most (p .class) (p .length) (p .place) from
 
-abbrev pub Stepped : List ℕ → ℕ → ℕ → List ℕ → List ℕ → List ℕ → List ℕ → Pending → Pending → Type 0
-Stepped m from count cs₀ cs ns₀ ns p r = Onward m from count cs₀ cs ns₀ ns (p .class) (p .length) (p .place) (r .class) (r .length) (r .place)
+abbrev pub StepsTaken : List ℕ → ℕ → ℕ → List ℕ → List ℕ → List ℕ → List ℕ → Pending → Pending → Type 0
+StepsTaken m from count cs₀ cs ns₀ ns p r = Onward m from count cs₀ cs ns₀ ns (p .class) (p .length) (p .place) (r .class) (r .length) (r .place)
 
 -- measures of the domain, room in both slices, and the table of classes
-pub record Ready (m cs ns table : List ℕ) (most : ℕ) : Type 0 where
+pub record ScanAsked (m cs ns table : List ℕ) (most : ℕ) : Type 0 where
   pub few : length m ≤ 1048576
-  pub roomC : Room m most cs
-  pub roomN : Room m most ns
+  pub roomC : RoomForRuns m most cs
+  pub roomN : RoomForRuns m most ns
   pub right : table ≡ classTable
 
 -- r tokens in two slices, class numbers and lengths; later places as they were
@@ -84,12 +79,6 @@ pub record InSlices (ts : List Token) (r : ℕ) (cs₀ cs₁ ns₀ ns₁ : List 
   pub number : r ≡ length ts
   pub inClasses : cs₁ ≡ filled cs₀ (map class ts)
   pub inLengths : ns₁ ≡ filled ns₀ (map len ts)
-
--- class numbers and lengths, one by one, as tokens
-abbrev pub paired : List ℕ → List ℕ → List Token
-paired [] ns = []
-paired (c ∷ cs) [] = []
-paired (c ∷ cs) (n ∷ ns) = token c n false ∷ paired cs ns
 
 -- the first runs of m in the two slices, at least `most` or all of them, and those of the measures from `next` on still to come
 pub record FirstRuns (m : List ℕ) (most : ℕ) (cs₀ cs ns₀ ns : List ℕ) (r : Taken) : Type 0 where
@@ -116,7 +105,7 @@ pub record Scanned (m : List ℕ) (r : ScanAnswer) (cs₀ cs₁ ns₀ ns₁ : Li
   pub written : InSlices (tokens (classes m)) (r .tokens) cs₀ cs₁ ns₀ ns₁
 
 -- measures that end in a stream measure, and slices for a good number of tokens
-pub record Ahead (m cs ns : List ℕ) : Type 0 where
+pub record RoomForTokens (m cs ns : List ℕ) : Type 0 where
   pub few : length m ≤ 1048576
   pub some : 0 < length m
   pub last : classOf (getD m (length m - 1) 0) ≢ 0

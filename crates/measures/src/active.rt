@@ -3,7 +3,7 @@ ghost use mathlib.Core.Path.{_≡_};
 ghost use mathlib.Core.Bool.{true};
 ghost use Prim.Native.Nat.{_+_};
 ghost use Rattle.rules.specs.Chart.{activePart};
-ghost use Rattle.measures.specs.Active.{Block, Bounds, Stretch, LedIn, Ended};
+ghost use Rattle.measures.specs.Active.{Block, SkipAsked, Stretch, LedIn, Ended};
 
 // Are the four measures from `i` on densities of `lo` to `lo + more`?
 fn four(m: &[u32], i: usize, lo: u32, more: u32) -> bool
@@ -27,7 +27,7 @@ fn eight(m: &[u32], i: usize, lo: u32, more: u32) -> bool
 
 // On from `from`, eight measures at a time, while all eight are densities of `lo` to `lo + more`.
 pub fn skip(m: &[u32], from: usize, lo: u32, more: u32) -> usize
-    requires { ⌜ Bounds (now m) from lo more ⌝ }
+    requires { ⌜ SkipAsked (now m) from lo more ⌝ }
     ensures { λ r. ⌜ Stretch (now (m .entry)) from lo more r ⌝ }
 {
     let mut i = from;

@@ -13,7 +13,8 @@ ghost use lib.ListN.{length};
 ghost use Prim.Native.Nat.{_+_, _≤_, _<_, _^_};
 ghost use Rattle.rules.specs.Chart.{classOf, tokens};
 ghost use Rattle.measures.specs.Sums.{sumsOf};
-ghost use Rattle.measures.specs.Scan.{classTable, Bounded, OfClass, Steps, Stepped, Ready, FirstRuns, paired, Paired, TokenRoom, Scanned, Ahead, FirstTokens};
+ghost use Rattle.rules.specs.Slices.{paired};
+ghost use Rattle.measures.specs.Scan.{classTable, Bounded, OfClass, Steps, StepsTaken, ScanAsked, FirstRuns, Paired, TokenRoom, Scanned, RoomForTokens, FirstTokens};
 
 // What the scan answers: the counts and the number of tokens.
 #[repr(C)]
@@ -132,7 +133,7 @@ fn steps_into(
     p: Pending,
 ) -> Pending
     requires { ⌜ Steps (now m) from count (now cs) (now ns) (now table) p ⌝ }
-    ensures { λ r. ⌜ Stepped (now (m .entry)) from count (now (cs .entry)) (now (cs .exit)) (now (ns .entry)) (now (ns .exit)) p r ⌝ }
+    ensures { λ r. ⌜ StepsTaken (now (m .entry)) from count (now (cs .entry)) (now (cs .exit)) (now (ns .entry)) (now (ns .exit)) p r ⌝ }
 {
     let mut c = p.class;
     let mut n = p.length;
@@ -160,7 +161,7 @@ fn steps_into(
 // The longest runs of one class in `m`, into two lent slices, until there are `most`: over a long run eight measures at a time, then a
 // block of 16 step by step. A block's length stands in the call, so that the compiler unrolls its loop.
 fn runs_into(m: &[u32], cs: &mut [u8], ns: &mut [u32], table: &[u8; 33], most: usize) -> Taken
-    requires { ⌜ Ready (now m) (now cs) (now ns) (now table) most ⌝ }
+    requires { ⌜ ScanAsked (now m) (now cs) (now ns) (now table) most ⌝ }
     ensures { λ r. ⌜ FirstRuns (now (m .entry)) most (now (cs .entry)) (now (cs .exit)) (now (ns .entry)) (now (ns .exit)) r ⌝ }
 {
     if m.len() == 0 {
@@ -255,7 +256,7 @@ pub fn scan(m: &[u32], cs: &mut [u8], ns: &mut [u32]) -> ScanAnswer
 // The first tokens of `m`, as many as surely fit: `runs_into` may go 16 beyond the place where it is to stop, and one is pending. A break
 // is given back where it is the last, so that the last is a run.
 pub fn tokens_into(m: &[u32], cs: &mut [u8], ns: &mut [u32]) -> Taken
-    requires { ⌜ Ahead (now m) (now cs) (now ns) ⌝ }
+    requires { ⌜ RoomForTokens (now m) (now cs) (now ns) ⌝ }
     ensures { λ r. ⌜ FirstTokens (now (m .entry)) (now (cs .entry)) (now (cs .exit)) (now (ns .entry)) (now (ns .exit)) r ⌝ }
 {
     let table = CLASS;

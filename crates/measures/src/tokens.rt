@@ -6,12 +6,12 @@ ghost use Prim.Native.Nat.{_+_};
 ghost use lib.ListN.{drop};
 ghost use Rattle.rules.specs.Chart.{classes};
 ghost use Rattle.rules.specs.Calls.{stepAt};
-ghost use Rattle.rules.proofs.View.{leading};
-ghost use Rattle.measures.specs.Tokens.{Place};
+ghost use Rattle.rules.specs.Slices.{leading};
+ghost use Rattle.measures.specs.Tokens.{MeasurePlace};
 
 // One past the measures of class `class` that stand at `at` and behind it.
 pub fn run_end(m: &[u32], at: usize, class: u8) -> usize
-    requires { ⌜ Place (now m) at ⌝ }
+    requires { ⌜ MeasurePlace (now m) at ⌝ }
     ensures { λ r. ⌜ r ≡ at + leading class (classes (drop at (now (m .entry)))) ⌝ }
 {
     let mut i = at;
@@ -26,7 +26,7 @@ pub fn run_end(m: &[u32], at: usize, class: u8) -> usize
 
 // The token that begins at the place `at`; ended at the chart's end.
 pub fn token_at(m: &[u32], at: usize) -> ViewToken
-    requires { ⌜ Place (now m) at ⌝ }
+    requires { ⌜ MeasurePlace (now m) at ⌝ }
     ensures { λ r. ⌜ r ≡ stepAt 0 (drop at (now (m .entry))) ⌝ }
 {
     if m.len() <= at {

@@ -24,5 +24,5 @@ pairPart a b width =
     (cond (leb b width) (record { second = true; length = b }) (record { second = false; length = 0 }))
 
 -- the bytes that such a part marks off
-abbrev pub shown : PairPart → List ℕ → List ℕ → List ℕ
-shown r first second = take (r .length) (cond (r .second) second first)
+abbrev pub pairBytes : PairPart → List ℕ → List ℕ → List ℕ
+pairBytes r first second = take (r .length) (cond (r .second) second first)

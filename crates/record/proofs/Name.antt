@@ -11,7 +11,8 @@ use lib.Seq.{length-take-le}
 use borrow.Author.Tests.{leb-true}
 use Rattle.number.specs.Questions.{accepted}
 use Rattle.number.proofs.Split.{split}
-use Rattle.record.specs.Record.{Fields, end, cut, whole, fieldsOf, isName, fieldNo, fieldsNo, densities, nameOf, chartNo, recordNo}
+use Rattle.record.specs.Record.{Fields, end, cut, whole, fieldsOf, isName, fieldNo, fieldsNo, densities, nameOf, recordNo}
+use Rattle.rules.specs.Chart.{densitiesNo}
 use Rattle.record.proofs.Fields.{fields-few, fields-head, at-end}
 use Rattle.record.proofs.Sizes.{Sized, sized}
 
@@ -61,4 +62,4 @@ pub named : (bytes old : List ℕ) → recordNo bytes old ≡ 0 → Named (lengt
 unfolding recordNo
 named bytes old h =
     let fs = fieldsOf bytes in
-    named-in fs (length bytes) (sized bytes) (first-yes (chartNo (densities fs) old) (fieldsNo true fs) h)
+    named-in fs (length bytes) (sized bytes) (first-yes (densitiesNo (densities fs) old) (fieldsNo true fs) h)

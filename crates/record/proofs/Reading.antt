@@ -6,7 +6,8 @@ use mathlib.Core.List.{List}
 use native.Mathlib.Omega.{arith}
 use lib.ListN.{length}
 use borrow.Author.Tests.{le-leb, lt-leb}
-use Rattle.record.specs.Record.{fieldsOf, densities, chartNo, recordNo}
+use Rattle.rules.specs.Chart.{densitiesNo}
+use Rattle.record.specs.Record.{fieldsOf, densities, recordNo}
 use Rattle.record.specs.Steps.{refusalOf, FieldsChecked, RoomForAll, AllPlaced}
 use Rattle.record.specs.Promises.{ReadRecord}
 use Rattle.record.specs.declared.RecordAnswer.{RecordAnswer}
@@ -21,13 +22,13 @@ module _ {bytes : List ℕ} {k : Checked} (g : FieldsChecked bytes k) where
   -- a no of the fields
   pub by-fields : {old : List ℕ} {r : RecordAnswer} → r ≡ refusalOf (k .refused) → (k .refused ≡ 0 → ⊥) → ReadRecord bytes old old r
   unfolding recordNo
-  by-fields {old} e ne = refused (k .refused) e ne (rw (← (g .refused)) (refused-is (chartNo (densities (fieldsOf bytes)) old) (k .refused) (k .refused) ne))
+  by-fields {old} e ne = refused (k .refused) e ne (rw (← (g .refused)) (refused-is (densitiesNo (densities (fieldsOf bytes)) old) (k .refused) (k .refused) ne))
 
   module _ (z : k .refused ≡ 0) where
     many : length (densities (fieldsOf bytes)) ≡ k .measures
     many = sym (g .measures z)
 
-    then-chart : (old : List ℕ) → recordNo bytes old ≡ chartNo (densities (fieldsOf bytes)) old
+    then-chart : (old : List ℕ) → recordNo bytes old ≡ densitiesNo (densities (fieldsOf bytes)) old
     unfolding recordNo
     then-chart old = rw (sym (g .refused) ∙ z)
 

@@ -6,7 +6,7 @@ use mathlib.Core.List.{List, [], _∷_, _++_}
 use lib.Dec.{leb, eqb}
 use lib.ListN.{length, take, drop}
 use Rattle.number.specs.Questions.{question, firstNo, accepted}
-use Rattle.rules.specs.Chart.{inDomain}
+use Rattle.rules.specs.Chart.{densitiesNo}
 
 -- the fields of a record: nothing left, bytes left that are no whole field, or a whole field (tag, payload) and what follows it
 pub data Fields : Type 0 where
@@ -63,12 +63,8 @@ fieldsNo first (whole tag payload fs) =
     let no = fieldNo first tag payload in
     accepted no (fieldsNo false fs) no
 
--- At most 1,048,576 measures? 1. A place in the lent density slice for each? 12
-abbrev pub chartNo : List ℕ → List ℕ → ℕ
-chartNo m old = firstNo (inDomain m ∷ question 12 (leb (length m) (length old)) ∷ [])
-
--- the first no to a record, for which the density slice `old` is lent
+-- the first no to a record, for which the density slice `old` is lent: of its fields, then of its densities
 unfoldable pub recordNo : List ℕ → List ℕ → ℕ
 recordNo bytes old =
     let no = fieldsNo true (fieldsOf bytes) in
-    accepted no (chartNo (densities (fieldsOf bytes)) old) no
+    accepted no (densitiesNo (densities (fieldsOf bytes)) old) no

@@ -19,7 +19,7 @@ firstAt at cut = Cut
 firstAt at (whole tag payload fs) = Whole tag (at + 3) (at + 3 + length payload)
 
 -- a place of some bytes, their end included
-pub record Place (bytes : List ℕ) (at : ℕ) : Type 0 where
+pub record BytePlace (bytes : List ℕ) (at : ℕ) : Type 0 where
   pub within : at ≤ length bytes
 
 -- check_fields: the first no of all fields; where there is none, how many densities they have, and the name's length

@@ -3,7 +3,7 @@ ghost use mathlib.Core.Path.{_≡_};
 ghost use Prim.Native.Nat.{_+_, _*_};
 ghost use lib.ListN.{drop};
 ghost use Rattle.record.specs.Record.{fieldsOf};
-ghost use Rattle.record.specs.Steps.{Place, firstAt};
+ghost use Rattle.record.specs.Steps.{BytePlace, firstAt};
 
 // What stands at a place of a record.
 pub enum Field {
@@ -24,7 +24,7 @@ fn length_of(high: u8, low: u8) -> usize
 
 // The field that begins at the place `at`.
 pub fn field_at(bytes: &[u8], at: usize) -> Field
-    requires { ⌜ Place (now bytes) at ⌝ }
+    requires { ⌜ BytePlace (now bytes) at ⌝ }
     ensures { λ r. ⌜ r ≡ firstAt at (fieldsOf (drop at (now (bytes .entry)))) ⌝ }
 {
     let left = bytes.len() - at;

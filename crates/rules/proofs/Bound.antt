@@ -13,7 +13,8 @@ use Rattle.rules.specs.declared.BreakdownMode.{BreakdownMode}
 use Rattle.rules.specs.declared.BreakdownMode.the-variants as Mode
 use Rattle.rules.specs.declared.StreamBreakdownLevel.{StreamBreakdownLevel}
 use Rattle.rules.specs.declared.StreamBreakdownLevel.the-variants as Level
-use Rattle.rules.proofs.Cost.{digits-most, Sound, runs-sound, join-sound, absorb-sound, drop-sound, total, total-runs, active-short, join-total, absorb-total, drop-total, strung-most, spaced, sn-gaps, sn-signs, standard-gaps, standard-signs}
+use Rattle.rules.specs.Slices.{total}
+use Rattle.rules.proofs.Cost.{digits-most, Sound, runs-sound, join-sound, absorb-sound, drop-sound, total-runs, active-short, join-total, absorb-total, drop-total, strung-most, spaced, sn-gaps, sn-signs, standard-gaps, standard-signs}
 
 abbrev pub most : Kind → ℕ → ℕ
 most (sn m) n = 4 * n

@@ -12,6 +12,7 @@ use borrow.Author.Tests.{ltb-false, leb-false, eqb-false}
 use Rattle.number.specs.Digits.{digitsIn, digits}
 use Rattle.rules.specs.Bytes.{bytes}
 use Rattle.rules.specs.Chart.{fromFirst, keep, toLast, active, Token, token, class, len, runsFrom, runs}
+use Rattle.rules.specs.Slices.{total}
 use Rattle.rules.specs.Reduced.{Item, run, gap, item, signOf, joins, joinFrom, join, short, absorb, dropOnes}
 use Rattle.rules.specs.Texts.{mark, word, part, strung}
 use Rattle.number.proofs.Split.{split}
@@ -83,11 +84,6 @@ drop-sound [] hs = none
 drop-sound (t ∷ ts) (h & hs) = split (eqb (class t) 0 && eqb (len t) 1) (λ e. rw e (drop-sound ts hs)) (λ e. rw e (h & drop-sound ts hs))
 
 -- ---- and no more measures than before
-
--- how many measures some tokens have
-abbrev pub total : List Token → ℕ
-total [] = 0
-total (token c n s ∷ ts) = n + total ts
 
 total-from : (c n : ℕ) (cs : List ℕ) → total (runsFrom c n cs) ≡ n + length cs
 total-from c n [] = refl
@@ -204,3 +200,7 @@ standard-gaps (token (suc c) n s) h = omega (arith, piece-one (suc c) n s h)
 pub standard-signs : (most : ℕ) (t : Token) → Sound t → length (part (item (signOf most) t)) ≤ 1 * len t
 standard-signs most (token zero n s) h = sign-one most n (sound-len (token zero n s) h)
 standard-signs most (token (suc c) n s) h = omega (arith, piece-one (suc c) n s h)
+
+pub total-append : (ts us : List Token) → total (ts ++ us) ≡ total ts + total us
+total-append [] us = omega arith
+total-append (token c n s ∷ ts) us = omega (arith, total-append ts us)

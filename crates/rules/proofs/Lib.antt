@@ -4,6 +4,7 @@ pub mod Shape
 pub mod Exact
 pub mod Places
 pub mod Steps
+pub mod Pairs
 pub mod View
 pub mod Demand
 pub mod Domain

@@ -8,11 +8,10 @@ use mathlib.Core.List.{List, [], _∷_, _++_, map}
 use lib.ListN.{replicate}
 use Rattle.number.specs.Digits.{digits}
 use Rattle.rules.specs.Bytes.{bytes}
-use Rattle.rules.specs.Chart.{counts, classOf, classes, active, tokens}
+use Rattle.rules.specs.Chart.{counts, countNumbers, classOf, classes, active, tokens}
 use Rattle.rules.specs.Reduced.{pieces, Kind, standard, reduced}
 use Rattle.rules.specs.Texts.{render, text, passKinds}
 use Rattle.rules.specs.Calls.{share, segments}
-use Rattle.rules.specs.declared.StreamCounts.{StreamCounts}
 use Rattle.rules.specs.declared.StreamSegment.{StreamSegment}
 use Rattle.rules.specs.declared.StreamBreakdownLevel.the-variants as Level
 
@@ -33,8 +32,7 @@ kinds = passKinds ++ (standard Level.Total ∷ [])
 pub computed : Row → Row
 unfolding counts
 computed (row m ns ts) =
-    let c : StreamCounts = counts (classes m) in
-    row m (c .«run16_streams» ∷ c .«run20_streams» ∷ c .«run24_streams» ∷ c .«run32_streams» ∷ c .«total_breaks» ∷ c .«sn_breaks» ∷ []) (map (λ k. text k m) kinds)
+    row m (countNumbers (counts (classes m))) (map (λ k. text k m) kinds)
 
 -- the chart of case 12
 abbrev case12 : List ℕ

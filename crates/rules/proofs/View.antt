@@ -1,22 +1,18 @@
 -- Steps of the token view: step k, taken from the view that k steps left, says the chart's token k.
 -- Assumes nothing.
-use Prim.Native.Nat.{ℕ, zero, suc, _+_}
+use Prim.Native.Nat.{ℕ, zero, suc, _+_, _≤_}
 use mathlib.Core.Path.{_≡_, refl, ap, _∙_}
 use mathlib.Core.Bool.{false, cond}
 use mathlib.Core.List.{List, [], _∷_}
 use native.Mathlib.Nat.{add-zero, add-suc, suc-add}
 use native.Mathlib.Omega.{arith}
 use lib.Dec.{eqb}
-use lib.ListN.{drop}
+use lib.ListN.{length, drop, length-map, length-drop}
 use Rattle.number.proofs.Split.{split}
 use Rattle.rules.specs.Chart.{classOf, classes, Token, token, runsFrom, runs}
+use Rattle.rules.specs.Slices.{leading}
 use Rattle.rules.specs.Calls.{said, stepAt, afterStep, afterSteps}
 use Rattle.rules.proofs.Steps.{map-drop}
-
--- how many at the front are of class c
-abbrev pub leading : ℕ → List ℕ → ℕ
-leading c [] = zero
-leading c (d ∷ cs) = cond (eqb c d) (suc (leading c cs)) zero
 
 -- the first run, and those after it
 pub first-run : (c n : ℕ) (cs : List ℕ) → runsFrom c n cs ≡ token c (n + leading c cs) false ∷ runs (drop (leading c cs) cs)
@@ -48,3 +44,11 @@ steps-follow (suc k) m = steps-follow k (afterStep m) ∙ ap said (ap (drop k) (
 pub same-steps : (k : ℕ) (a b : List ℕ) → classes a ≡ classes b → stepAt k a ≡ stepAt k b
 unfolding stepAt
 same-steps k a b e = rw e
+
+leading-short : (c : ℕ) (cs : List ℕ) → leading c cs ≤ length cs
+leading-short c [] = omega arith
+leading-short c (d ∷ cs) = split (eqb c d) (λ e. rw e (omega (arith, leading-short c cs))) (λ e. rw e (omega arith))
+
+module _ (m : List ℕ) (i c : ℕ) where
+  pub run-fits : i ≤ length m → i + leading c (classes (drop i m)) ≤ length m
+  run-fits h = omega (arith, leading-short c (classes (drop i m)), length-map (drop i m) classOf, length-drop i m)

@@ -5,7 +5,7 @@ use mathlib.Core.Bool.{Bool, false, cond}
 use mathlib.Core.List.{List, [], _∷_, map}
 use lib.Dec.{ltb, leb, eqb}
 use lib.ListN.{length, take, drop}
-use Rattle.number.specs.Questions.{Question, question}
+use Rattle.number.specs.Questions.{Question, question, firstNo}
 use Rattle.rules.specs.declared.StreamCounts.{StreamCounts}
 use Rattle.rules.specs.declared.RunDensity.{RunDensity}
 use Rattle.rules.specs.declared.RunDensity.the-variants.{Run32, Run24, Run20, Run16, Break}
@@ -13,6 +13,14 @@ use Rattle.rules.specs.declared.RunDensity.the-variants.{Run32, Run24, R
 -- The domain. At most 1,048,576 measures? 1
 abbrev pub inDomain : List ℕ → Question
 inDomain m = question 1 (leb (length m) 1048576)
+
+-- A place in the lent density slice `old` for each? 12
+abbrev pub densityPlaces : List ℕ → List ℕ → Question
+densityPlaces m old = question 12 (leb (length m) (length old))
+
+-- the first no to densities m that are to go to the lent slice `old`
+abbrev pub densitiesNo : List ℕ → List ℕ → ℕ
+densitiesNo m old = firstNo (inDomain m ∷ densityPlaces m old ∷ [])
 
 -- Class: 0, break, below 16; 1: 16 to 19; 2: 20 to 23; 3: 24 to 31; 4: 32 and more
 unfoldable pub classOf : ℕ → ℕ
@@ -120,6 +128,10 @@ counts cs =
       «total_breaks» = cond (eqb (streams cs) 0) 0 (wideGaps (runs cs));
       «sn_breaks» = count 0 (active cs);
     }
+
+-- run16 run20 run24 run32 total_breaks sn_breaks
+abbrev pub countNumbers : StreamCounts → List ℕ
+countNumbers c = c .«run16_streams» ∷ c .«run20_streams» ∷ c .«run24_streams» ∷ c .«run32_streams» ∷ c .«total_breaks» ∷ c .«sn_breaks» ∷ []
 
 -- the counts of a refused chart
 abbrev pub noCounts : StreamCounts

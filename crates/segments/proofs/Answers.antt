@@ -11,11 +11,11 @@ use borrow.Author.Tests.{le-leb, lt-leb}
 use Rattle.rules.specs.Chart.{classes}
 use Rattle.rules.specs.Calls.{segments}
 use Rattle.rules.specs.declared.StreamSegment.{StreamSegment}
-use Rattle.segments.specs.Promises.{noSegment, firstOf, nthSegment}
+use Rattle.segments.specs.Promises.{noSegment, firstSegment, nthSegment}
 use Rattle.segments.specs.Steps.{segmentsFrom, stepOf}
-use Rattle.segments.specs.Turns.{firstNoOf, turnOf, firstTurn}
+use Rattle.segments.specs.Turns.{firstNoOf, turnOf, initialTurn}
 use Rattle.segments.specs.declared.steps.Cursor.{Cursor}
-use Rattle.segments.specs.declared.steps.Step.the-variants.{Done}
+use Rattle.segments.specs.declared.steps.SegmentStep.the-variants.{Done}
 use Rattle.segments.proofs.Stretches.{Stepped}
 
 module _ (m : List ℕ) where
@@ -30,13 +30,13 @@ module _ (m : List ℕ) where
     all-yes h g = rw (le-leb (length m) 1048576 h, le-leb (length (segments (classes m))) n g)
 
     -- the first turn, by the first no
-    pub turn-refused : (j : ℕ) → j ≡ firstNoOf m n → (j ≡ 0 → ⊥) → turnOf Done 0 j ≡ firstTurn m n
-    unfolding firstTurn
+    pub turn-refused : (j : ℕ) → j ≡ firstNoOf m n → (j ≡ 0 → ⊥) → turnOf Done 0 j ≡ initialTurn m n
+    unfolding initialTurn
     turn-refused zero e h = absurd (h refl)
     turn-refused (suc j) e h = rw (← e)
 
-    pub turn-accepted : (j : ℕ) → j ≡ firstNoOf m n → j ≡ 0 → turnOf (stepOf (segments (classes m))) 0 0 ≡ firstTurn m n
-    unfolding firstTurn
+    pub turn-accepted : (j : ℕ) → j ≡ firstNoOf m n → j ≡ 0 → turnOf (stepOf (segments (classes m))) 0 0 ≡ initialTurn m n
+    unfolding initialTurn
     turn-accepted j e z = rw (← e, z)
 
   module _ (k : ℕ) where
@@ -44,7 +44,7 @@ module _ (m : List ℕ) where
     unfolding nthSegment
     nth-refused h = rw (lt-leb (length m) 1048576 h)
 
-    pub nth-is : length m ≤ 1048576 → (ss : List StreamSegment) → ss ≡ drop k (segments (classes m)) → firstOf ss ≡ nthSegment k m
+    pub nth-is : length m ≤ 1048576 → (ss : List StreamSegment) → ss ≡ drop k (segments (classes m)) → firstSegment ss ≡ nthSegment k m
     unfolding nthSegment
     nth-is h ss e = rw (le-leb (length m) 1048576 h, e)
 

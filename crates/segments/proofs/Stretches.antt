@@ -16,10 +16,11 @@ use Rattle.rules.specs.Chart.{classOf, classes, Token, token, runsFrom, runs, f
 use Rattle.rules.specs.Calls.{segmentsAt, segments}
 use Rattle.rules.specs.declared.StreamSegment.{StreamSegment}
 use Rattle.rules.proofs.Steps.{map-drop}
-use Rattle.rules.proofs.View.{leading, first-run}
+use Rattle.rules.specs.Slices.{leading}
+use Rattle.rules.proofs.View.{first-run}
 use Rattle.segments.specs.Steps.{flatFrom, stretch, segmentsFrom, stepOf}
 use Rattle.segments.specs.declared.steps.Cursor.{Cursor}
-use Rattle.segments.specs.declared.steps.Step.the-variants.{Segment, Done}
+use Rattle.segments.specs.declared.steps.SegmentStep.the-variants.{Segment, Done}
 
 -- ---- the loop over a stretch
 

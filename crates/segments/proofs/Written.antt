@@ -16,21 +16,21 @@ use Rattle.number.proofs.Split.{split}
 use Rattle.rules.specs.Chart.{classes}
 use Rattle.rules.specs.Calls.{segments}
 use Rattle.rules.specs.declared.StreamSegment.{StreamSegment}
-use Rattle.segments.specs.Promises.{refusal}
+use Rattle.segments.specs.Promises.{segmentsNo}
 use Rattle.segments.specs.Steps.{stretch, segmentsFrom, stepOf}
-use Rattle.segments.specs.Turns.{turnOf, firstTurn, nextTurn}
+use Rattle.segments.specs.Turns.{turnOf, initialTurn, nextTurn}
 use Rattle.segments.specs.declared.SegmentsAnswer.{SegmentsAnswer}
-use Rattle.segments.specs.declared.steps.Step.the-variants.{Done}
+use Rattle.segments.specs.declared.steps.SegmentStep.the-variants.{Done}
 use Rattle.segments.specs.declared.turns.Turn.{Turn}
 use Rattle.segments.proofs.Stretches.{follows, from-start, from-last}
 
 -- ---- the records to write: all, or none in a refused call
 
 abbrev pub due : List ℕ → List StreamSegment → List StreamSegment
-due m old = accepted (refusal m old) (segments (classes m)) []
+due m old = accepted (segmentsNo m old) (segments (classes m)) []
 
 abbrev pub answerOf : List ℕ → List StreamSegment → SegmentsAnswer
-answerOf m old = record { refused = refusal m old; count = accepted (refusal m old) (length (segments (classes m))) 0 }
+answerOf m old = record { refused = segmentsNo m old; count = accepted (segmentsNo m old) (length (segments (classes m))) 0 }
 
 pub due-fits : (m : List ℕ) (old : List StreamSegment) → length (due m old) ≤ length old
 due-fits m old =
@@ -40,8 +40,8 @@ due-fits m old =
     (λ g. rw (h, g) (omega arith)))
     (λ h. rw h (omega arith))
 
-pub filled-due : (m : List ℕ) (old : List StreamSegment) → filled old (due m old) ≡ accepted (refusal m old) (filled old (segments (classes m))) old
-filled-due m old = by-number (refusal m old)
+pub filled-due : (m : List ℕ) (old : List StreamSegment) → filled old (due m old) ≡ accepted (segmentsNo m old) (filled old (segments (classes m))) old
+filled-due m old = by-number (segmentsNo m old)
   where
     by-number : (n : ℕ) → filled old (accepted n (segments (classes m)) []) ≡ accepted n (filled old (segments (classes m))) old
     by-number zero = refl
@@ -75,9 +75,9 @@ module _ (m : List ℕ) where
   left-all : (at : ℕ) → segmentsFrom m at ≡ segments (classes m) → Left m (record { refused = 0; count = length (segments (classes m)) }) 0 (segments (classes m)) (turnOf (stepOf (segments (classes m))) 0 0)
   left-all at e = left-from (segments (classes m)) at 0 _ e (let z : 0 + length (segments (classes m)) ≡ length (segments (classes m)) = omega arith in rw z)
 
-  pub first-left : (old : List StreamSegment) → Left m (answerOf m old) 0 (due m old) (firstTurn m (length old))
-  unfolding firstTurn
-  first-left old = by-number (refusal m old)
+  pub first-left : (old : List StreamSegment) → Left m (answerOf m old) 0 (due m old) (initialTurn m (length old))
+  unfolding initialTurn
+  first-left old = by-number (segmentsNo m old)
     where
       by-number : (n : ℕ) → Left m (record { refused = n; count = accepted n (length (segments (classes m))) 0 }) 0 (accepted n (segments (classes m)) [])
           (accepted n (turnOf (stepOf (segments (classes m))) 0 0) (turnOf Done 0 n))

@@ -18,13 +18,13 @@ abbrev pub placesFor : List StreamSegment → List StreamSegment → Question
 placesFor ss old = question 3 (leb (length ss) (length old))
 
 -- the first no to stream_sequences
-abbrev pub refusal : List ℕ → List StreamSegment → ℕ
-refusal m old = firstNo (inDomain m ∷ placesFor (segments (classes m)) old ∷ [])
+abbrev pub segmentsNo : List ℕ → List StreamSegment → ℕ
+segmentsNo m old = firstNo (inDomain m ∷ placesFor (segments (classes m)) old ∷ [])
 
 -- stream_sequences: the segments at the slice's start, later records unchanged, and their number
 pub record Segmented (m : List ℕ) (old new : List StreamSegment) (r : SegmentsAnswer) : Type 0 where
-  pub answer : r ≡ record { refused = refusal m old; count = accepted (refusal m old) (length (segments (classes m))) 0 }
-  pub records : new ≡ accepted (refusal m old) (filled old (segments (classes m))) old
+  pub answer : r ≡ record { refused = segmentsNo m old; count = accepted (segmentsNo m old) (length (segments (classes m))) 0 }
+  pub records : new ≡ accepted (segmentsNo m old) (filled old (segments (classes m))) old
 
 -- what stands where there is no segment
 abbrev pub noSegment : StreamSegment
@@ -36,15 +36,15 @@ empties = replicate 64 noSegment
 
 -- first_segments: what stream_sequences leaves in those places
 abbrev pub placed : List ℕ → List StreamSegment
-placed m = accepted (refusal m empties) (filled empties (segments (classes m))) empties
+placed m = accepted (segmentsNo m empties) (filled empties (segments (classes m))) empties
 
 -- the first of some segments, if there is one
-abbrev pub firstOf : List StreamSegment → NthSegment
-firstOf [] = record { refused = 0; found = false; segment = noSegment }
-firstOf (s ∷ ss) = record { refused = 0; found = true; segment = s }
+abbrev pub firstSegment : List StreamSegment → NthSegment
+firstSegment [] = record { refused = 0; found = false; segment = noSegment }
+firstSegment (s ∷ ss) = record { refused = 0; found = true; segment = s }
 
 -- segment_at: question 1, then segment number k (from 0) of the chart
 unfoldable pub nthSegment : ℕ → List ℕ → NthSegment
 nthSegment k m =
     let no = firstNo (inDomain m ∷ []) in
-    accepted no (firstOf (drop k (segments (classes m)))) (record { refused = no; found = false; segment = noSegment })
+    accepted no (firstSegment (drop k (segments (classes m)))) (record { refused = no; found = false; segment = noSegment })

@@ -6,10 +6,10 @@ use mathlib.Core.List.{List, [], _∷_, map}
 use lib.ListN.{drop}
 use Rattle.rules.specs.Chart.{classes, runs, flat}
 use Rattle.rules.specs.Calls.{segmentsAt}
-use Rattle.rules.proofs.View.{leading}
+use Rattle.rules.specs.Slices.{leading}
 use Rattle.rules.specs.declared.StreamSegment.{StreamSegment}
-use Rattle.segments.specs.declared.steps.Step.{Step}
-use Rattle.segments.specs.declared.steps.Step.the-variants.{Segment, Done}
+use Rattle.segments.specs.declared.steps.SegmentStep.{SegmentStep}
+use Rattle.segments.specs.declared.steps.SegmentStep.the-variants.{Segment, Done}
 
 -- the measures from `at` on, classes ignored: 1 a stream measure, 0 a break
 abbrev pub flatFrom : List ℕ → ℕ → List ℕ
@@ -24,6 +24,6 @@ unfoldable pub segmentsFrom : List ℕ → ℕ → List StreamSegment
 segmentsFrom m at = segmentsAt at (runs (flatFrom m at))
 
 -- a step to the first of some segments, and to the place after it
-abbrev pub stepOf : List StreamSegment → Step
+abbrev pub stepOf : List StreamSegment → SegmentStep
 stepOf [] = Done
 stepOf (s ∷ ss) = Segment s (record { at = s .end })

@@ -10,24 +10,24 @@ use Rattle.rules.specs.Chart.{inDomain, classes}
 use Rattle.rules.specs.Calls.{segments}
 use Rattle.segments.specs.Promises.{noSegment}
 use Rattle.segments.specs.Steps.{segmentsFrom, stepOf}
-use Rattle.segments.specs.declared.steps.Step.{Step}
-use Rattle.segments.specs.declared.steps.Step.the-variants.{Segment, Done}
+use Rattle.segments.specs.declared.steps.SegmentStep.{SegmentStep}
+use Rattle.segments.specs.declared.steps.SegmentStep.the-variants.{Segment, Done}
 use Rattle.segments.specs.declared.turns.Turn.{Turn}
 
--- the first no to stream_sequences with n places: `refusal`, by the number of places
+-- the first no to stream_sequences with n places: `segmentsNo`, by the number of places
 abbrev pub firstNoOf : List ℕ → ℕ → ℕ
 firstNoOf m n = firstNo (inDomain m ∷ question 3 (leb (length (segments (classes m))) n) ∷ [])
 
 -- a step as a turn that writes at place k, n being the first no
-abbrev pub turnOf : Step → ℕ → ℕ → Turn
+abbrev pub turnOf : SegmentStep → ℕ → ℕ → Turn
 turnOf (Segment s c) k n =
     record { more = true; place = k; segment = s; next = c; answer = record { refused = n; count = k } }
 turnOf Done k n =
     record { more = false; place = k; segment = noSegment; next = record { at = 0 }; answer = record { refused = n; count = k } }
 
 -- the first turn with n places: none where the call is refused
-unfoldable pub firstTurn : List ℕ → ℕ → Turn
-firstTurn m n =
+unfoldable pub initialTurn : List ℕ → ℕ → Turn
+initialTurn m n =
     accepted (firstNoOf m n) (turnOf (stepOf (segments (classes m))) 0 0) (turnOf Done 0 (firstNoOf m n))
 
 -- the turn after t ..

@@ -2,7 +2,7 @@
 mod steps;
 mod turns;
 
-use crate::steps::Step;
+use crate::steps::SegmentStep;
 use crate::steps::first_cursor;
 use crate::steps::next_segment;
 use crate::turns::first_turn;
@@ -69,7 +69,7 @@ pub fn segment_at(measures: &[u32], k: usize) -> NthSegment
     }
     let mut left = k;
     let mut c = first_cursor(measures);
-    while let Step::Segment(segment, next) = next_segment(measures, c) {
+    while let SegmentStep::Segment(segment, next) = next_segment(measures, c) {
         if left == 0 {
             return NthSegment {
                 refused: 0,

@@ -14,7 +14,7 @@ pub struct Cursor {
 }
 
 // A segment and the place after it, or the end.
-pub enum Step {
+pub enum SegmentStep {
     Segment(StreamSegment, Cursor),
     Done,
 }
@@ -47,7 +47,7 @@ pub fn first_cursor(m: &[u32]) -> Cursor
 }
 
 // The gap at the cursor if it has 2 measures or more, else the piece after it.
-pub fn next_segment(m: &[u32], c: Cursor) -> Step
+pub fn next_segment(m: &[u32], c: Cursor) -> SegmentStep
     ensures { λ r. ⌜ r ≡ stepOf (segmentsFrom (now (m .entry)) (c .at)) ⌝ }
 {
     let at = c.at;
@@ -58,10 +58,10 @@ pub fn next_segment(m: &[u32], c: Cursor) -> Step
             end: gap_end,
             is_break: true,
         };
-        return Step::Segment(gap, Cursor { at: gap_end });
+        return SegmentStep::Segment(gap, Cursor { at: gap_end });
     }
     if m.len() <= gap_end {
-        return Step::Done;
+        return SegmentStep::Done;
     }
     let end = stretch_end(m, gap_end, true);
     let piece = StreamSegment {
@@ -69,7 +69,7 @@ pub fn next_segment(m: &[u32], c: Cursor) -> Step
         end,
         is_break: false,
     };
-    Step::Segment(piece, Cursor { at: end })
+    SegmentStep::Segment(piece, Cursor { at: end })
 }
 
 // How many segments there are.
@@ -78,7 +78,7 @@ pub fn count_segments(m: &[u32]) -> usize
 {
     let mut n: usize = 0;
     let mut c = first_cursor(m);
-    while let Step::Segment(_, next) = next_segment(m, c) {
+    while let SegmentStep::Segment(_, next) = next_segment(m, c) {
         n += 1;
         c = next;
     }

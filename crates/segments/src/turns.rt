@@ -1,13 +1,13 @@
 // What a turn of the loop that writes the segments needs, in a struct by value.
 use crate::SegmentsAnswer;
 use crate::steps::Cursor;
-use crate::steps::Step;
+use crate::steps::SegmentStep;
 use crate::steps::count_segments;
 use crate::steps::first_cursor;
 use crate::steps::next_segment;
 use rules::StreamSegment;
 ghost use mathlib.Core.Path.{_≡_};
-ghost use Rattle.segments.specs.Turns.{NextPlace, firstNoOf, turnOf, firstTurn, nextTurn};
+ghost use Rattle.segments.specs.Turns.{NextPlace, firstNoOf, turnOf, initialTurn, nextTurn};
 
 // Whether a segment is left to write, its place, the segment, where the next step begins, and the answer if none is left.
 pub struct Turn {
@@ -19,7 +19,7 @@ pub struct Turn {
 }
 
 // The step `s` as a turn that writes at `place`.
-pub fn turn_of(s: Step, place: usize, refused: u32) -> Turn
+pub fn turn_of(s: SegmentStep, place: usize, refused: u32) -> Turn
     ensures { λ r. ⌜ r ≡ turnOf s place refused ⌝ }
 {
     let answer = SegmentsAnswer {
@@ -27,14 +27,14 @@ pub fn turn_of(s: Step, place: usize, refused: u32) -> Turn
         count: place,
     };
     match s {
-        Step::Segment(segment, next) => Turn {
+        SegmentStep::Segment(segment, next) => Turn {
             more: true,
             place,
             segment,
             next,
             answer,
         },
-        Step::Done => Turn {
+        SegmentStep::Done => Turn {
             more: false,
             place,
             segment: StreamSegment {
@@ -67,11 +67,11 @@ pub fn first_no(measures: &[u32], places: usize) -> u32
 
 // The first turn with `places` places: in a refused call nothing is left to write.
 pub fn first_turn(measures: &[u32], places: usize) -> Turn
-    ensures { λ r. ⌜ r ≡ firstTurn (now (measures .entry)) places ⌝ }
+    ensures { λ r. ⌜ r ≡ initialTurn (now (measures .entry)) places ⌝ }
 {
     let no = first_no(measures, places);
     if no != 0 {
-        return turn_of(Step::Done, 0, no);
+        return turn_of(SegmentStep::Done, 0, no);
     }
     let c = first_cursor(measures);
     turn_of(next_segment(measures, c), 0, 0)

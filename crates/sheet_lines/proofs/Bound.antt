@@ -11,11 +11,12 @@ use Rattle.number.proofs.Digits.{at-most}
 use Rattle.number.proofs.Each.{Each, none, _&_}
 use Rattle.number.proofs.Split.{split}
 use Rattle.rules.specs.Bytes.{bytes}
-use Rattle.rules.specs.Chart.{classOf, classes, Token, token, runs, active, count, streams, wideGaps, counts}
+use Rattle.rules.specs.Chart.{classOf, classes, Token, token, runs, active, count, streams, wideGaps, counts, countNumbers}
 use Rattle.rules.specs.declared.Kind.{Kind}
 use Rattle.rules.specs.Texts.{text, endToEnd, lengthsOf}
-use Rattle.rules.proofs.Cost.{total, total-runs, active-short}
-use Rattle.sheet_lines.specs.Sheet.{line, spaced, numbers, countsLine, textLines}
+use Rattle.rules.specs.Slices.{total}
+use Rattle.rules.proofs.Cost.{total-runs, active-short}
+use Rattle.sheet_lines.specs.Sheet.{line, partedBySpaces, countsLine, textLines}
 use Rattle.sheet_lines.specs.Steps.{sum}
 
 -- ---- counts
@@ -36,7 +37,7 @@ breaks-few cs = split (eqb (streams cs) 0) (λ e. rw e (omega arith)) (λ e. rw 
 abbrev Few : ℕ → Type 0
 Few n = n ≤ 1048576
 
-counts-few : (cs : List ℕ) → length cs ≤ 1048576 → Each Few (numbers (counts cs))
+counts-few : (cs : List ℕ) → length cs ≤ 1048576 → Each Few (countNumbers (counts cs))
 unfolding counts
 counts-few cs h =
     few (count-few 1 cs) h
@@ -53,10 +54,10 @@ counts-few cs h =
 few-digits : (n : ℕ) → Few n → length (digits n) ≤ 7
 few-digits n h = at-most 7 n (omega arith) (omega arith)
 
-spaced-short : (ns : List ℕ) → Each Few ns → length (spaced ns) ≤ 8 * length ns
+spaced-short : (ns : List ℕ) → Each Few ns → length (partedBySpaces ns) ≤ 8 * length ns
 spaced-short [] none = omega arith
 spaced-short (n ∷ []) (h & none) = omega (arith, few-digits n h)
-spaced-short (n ∷ k ∷ ns) (h & hs) = omega (arith, length-append (digits n) (bytes " " ++ spaced (k ∷ ns)), few-digits n h, spaced-short (k ∷ ns) hs)
+spaced-short (n ∷ k ∷ ns) (h & hs) = omega (arith, length-append (digits n) (bytes " " ++ partedBySpaces (k ∷ ns)), few-digits n h, spaced-short (k ∷ ns) hs)
 
 line-length : (xs : List ℕ) → length (line xs) ≡ length xs + 1
 line-length xs = length-append xs (10 ∷ [])
@@ -65,7 +66,7 @@ module _ (m : List ℕ) where
   pub counts-short : length m ≤ 1048576 → length (line (countsLine (counts (classes m)))) ≤ 49
   counts-short h =
       let few = counts-few (classes m) (omega (arith, length-map m classOf)) in
-      omega (arith, line-length (countsLine (counts (classes m))), spaced-short (numbers (counts (classes m))) few)
+      omega (arith, line-length (countsLine (counts (classes m))), spaced-short (countNumbers (counts (classes m))) few)
 
   -- ---- texts
 

@@ -19,22 +19,22 @@ use Rattle.rules.specs.declared.StreamCounts.{StreamCounts}
 use Rattle.rules.specs.declared.StreamBreakdownLevel.the-variants as Level
 use Rattle.streams.specs.Promises.{passNo, Outputs, Breakdown}
 use Rattle.streams.specs.declared.StreamOutputs.{StreamOutputs}
-use Rattle.sheet_lines.specs.Sheet.{places, textBytes, totalBytes, firstOf, totalNo, line, countsLine, sheetKinds, textLines}
-use Rattle.sheet_lines.specs.Steps.{AtStart, NameRoom, LinesRoom, refusal, sum, cutLines, allLines, chartNo, chartBytes}
+use Rattle.sheet_lines.specs.Sheet.{places, textBytes, totalBytes, firstRefusal, totalNo, line, countsLine, sheetKinds, textLines}
+use Rattle.sheet_lines.specs.Steps.{AtStart, NameRoom, LinesRoom, refusalLine, sum, cutLines, allLines, textsNo, chartBytes}
 use Rattle.sheet_lines.proofs.Bound.{counts-short, sum-lengths, lines-length}
 
 -- ---- refusals
 
-pub first-no : (n : ℕ) (ns : List ℕ) → (n ≡ 0 → ⊥) → firstOf (n ∷ ns) ≡ n
+pub first-no : (n : ℕ) (ns : List ℕ) → (n ≡ 0 → ⊥) → firstRefusal (n ∷ ns) ≡ n
 first-no zero ns h = absurd (h refl)
 first-no (suc n) ns h = refl
 
-pub refused-by : {n : ℕ} (xs : List ℕ) → (n ≡ 0 → ⊥) → accepted n xs (refusal n) ≡ refusal n
+pub refused-by : {n : ℕ} (xs : List ℕ) → (n ≡ 0 → ⊥) → accepted n xs (refusalLine n) ≡ refusalLine n
 refused-by {n = zero} xs h = absurd (h refl)
 refused-by {n = suc n} xs h = refl
 
 module _ (name m : List ℕ) where
-  chart-refused : (n : ℕ) → (n ≡ 0 → ⊥) → chartNo m ≡ n → chartBytes name m ≡ refusal n
+  chart-refused : (n : ℕ) → (n ≡ 0 → ⊥) → textsNo m ≡ n → chartBytes name m ≡ refusalLine n
   unfolding chartBytes
   chart-refused n h e = rw e (refused-by _ h)
 
@@ -42,16 +42,16 @@ module _ (name m : List ℕ) where
     pass-no : passNo m places places textBytes ≡ r .refused
     pass-no = sym (ap (λ (o : StreamOutputs). o .refused) (p .answer))
 
-    pub by-pass : (r .refused ≡ 0 → ⊥) → chartBytes name m ≡ refusal (r .refused)
-    unfolding chartNo
+    pub by-pass : (r .refused ≡ 0 → ⊥) → chartBytes name m ≡ refusalLine (r .refused)
+    unfolding textsNo
     by-pass h = chart-refused (r .refused) h (rw pass-no (first-no (r .refused) (totalNo m totalBytes ∷ []) h))
 
     module _ (yes : r .refused ≡ 0) {total : List ℕ} {w : Written} (q : Breakdown (standard Level.Total) m totalBytes total w) where
       total-no : totalNo m totalBytes ≡ w .refused
       total-no = sym (ap (λ (o : Written). o .refused) (q .answer))
 
-      pub by-total : (w .refused ≡ 0 → ⊥) → chartBytes name m ≡ refusal (w .refused)
-      unfolding chartNo
+      pub by-total : (w .refused ≡ 0 → ⊥) → chartBytes name m ≡ refusalLine (w .refused)
+      unfolding textsNo
       by-total h = chart-refused (w .refused) h (rw (pass-no, yes, total-no) (first-no (w .refused) [] h))
 
 -- ---- texts end to end, cut into lines
@@ -166,7 +166,7 @@ module _ {m cs ns texts : List ℕ} {r : StreamOutputs} (p : Outputs m places cs
           }
 
       chart-lines : chartBytes name m ≡ lines name m
-      unfolding chartBytes chartNo
+      unfolding chartBytes textsNo
       chart-lines = rw (passed, totalled) (ap (λ (l : List ℕ). line name ++ (line (countsLine (counts (classes m))) ++ l)) (seven-lines m))
 
       pub printed : {out new : List ℕ} {s : ℕ} → AtStart out new (allLines name (r .counts) texts (r .lengths) (take (w .length) total)) s → AtStart out new (chartBytes name m) s

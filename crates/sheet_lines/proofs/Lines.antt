@@ -11,12 +11,12 @@ use borrow.Author.Tests.{leb-true, eqb-true}
 use Rattle.number.specs.Questions.{firstNo, accepted}
 use Rattle.number.proofs.Split.{split}
 use Rattle.number.proofs.Each.{none, _&_, each-append}
-use Rattle.rules.specs.Chart.{classes, counts}
+use Rattle.rules.specs.Chart.{classes, counts, countNumbers}
 use Rattle.rules.specs.declared.StreamCounts.{StreamCounts}
 use Rattle.rules.proofs.Lines.{OneLine, digits-line}
 use Rattle.record.specs.Record.{Fields, end, cut, whole, fieldsOf, printable, isName, fieldNo, fieldsNo, nameOf, recordNo}
 use Rattle.streams.specs.Promises.{passNo}
-use Rattle.sheet_lines.specs.Sheet.{inputFits, places, textBytes, totalBytes, firstOf, chartOf, totalNo, sheetNo, line, spaced, numbers, countsLine, sheetKinds, textLines, sheetBytes}
+use Rattle.sheet_lines.specs.Sheet.{inputFits, places, textBytes, totalBytes, firstRefusal, chartOf, totalNo, sheetNo, line, partedBySpaces, countsLine, sheetKinds, textLines, sheetBytes}
 
 -- ---- the name
 
@@ -48,17 +48,17 @@ name-line (whole t p fs) h =
 
 -- ---- the counts
 
-spaced-line : (ns : List ℕ) → OneLine (spaced ns)
+spaced-line : (ns : List ℕ) → OneLine (partedBySpaces ns)
 spaced-line [] = none
 spaced-line (n ∷ []) = digits-line n
 spaced-line (n ∷ k ∷ ns) = each-append (digits-line n) (refl & spaced-line (k ∷ ns))
 
 pub counts-line : (c : StreamCounts) → OneLine (countsLine c)
-counts-line c = spaced-line (numbers c)
+counts-line c = spaced-line (countNumbers c)
 
 -- ---- an accepted record
 
-second-zero : (x y z w : ℕ) → firstOf (x ∷ y ∷ z ∷ w ∷ []) ≡ 0 → y ≡ 0
+second-zero : (x y z w : ℕ) → firstRefusal (x ∷ y ∷ z ∷ w ∷ []) ≡ 0 → y ≡ 0
 second-zero zero zero z w h = refl
 second-zero zero (suc y) z w h = h
 second-zero (suc x) y z w h = absurd (omega (arith, h))

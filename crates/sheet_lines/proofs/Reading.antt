@@ -15,11 +15,11 @@ use Rattle.record.proofs.Name.{name-at, named}
 use Rattle.streams.specs.Promises.{passNo}
 use Rattle.sheet_lines.specs.Sheet.{places, textBytes, totalBytes, totalNo, chartOf, sheetNo, sheetBytes, Printed}
 use Rattle.sheet_lines.specs.declared.Sheet.{Sheet}
-use Rattle.sheet_lines.specs.Steps.{AtStart, Roomy, NameRoom, refusal, chartNo, chartBytes}
+use Rattle.sheet_lines.specs.Steps.{AtStart, Roomy, NameRoom, refusalLine, textsNo, chartBytes}
 use Rattle.sheet_lines.proofs.Charted.{first-no, refused-by}
 
 -- question 13
-pub too-long : (input : List ℕ) → 16384 < length input → sheetBytes input ≡ refusal 13
+pub too-long : (input : List ℕ) → 16384 < length input → sheetBytes input ≡ refusalLine 13
 unfolding sheetBytes sheetNo
 too-long input h = rw (lt-leb (length input) 16384 h)
 
@@ -34,7 +34,7 @@ module _ {input new : List ℕ} {r : RecordAnswer} (p : ReadRecord input places 
         let m = chartOf input in
         rw (le-leb (length input) 16384 short, record-no) (first-no (r .refused) (passNo m places places textBytes ∷ totalNo m totalBytes ∷ []) h)
 
-    pub by-record : sheetBytes input ≡ refusal (r .refused)
+    pub by-record : sheetBytes input ≡ refusalLine (r .refused)
     unfolding sheetBytes
     by-record = rw sheet-no (refused-by _ h)
 
@@ -81,7 +81,7 @@ module _ {input new : List ℕ} {r : RecordAnswer} (p : ReadRecord input places 
     chart-is = rw new-is (take-at (chartOf input) _ (r .measures) (sym measures-are))
 
     sheet-chart : length input ≤ 16384 → sheetBytes input ≡ chartBytes name (chartOf input)
-    unfolding sheetBytes sheetNo chartBytes chartNo
+    unfolding sheetBytes sheetNo chartBytes textsNo
     sheet-chart short = rw (le-leb (length input) 16384 short, read)
 
     pub sheet-printed : length input ≤ 16384 → {out out′ : List ℕ} {s : ℕ} → AtStart out out′ (chartBytes nameRead (take (r .measures) new)) s → AtStart out out′ (sheetBytes input) s

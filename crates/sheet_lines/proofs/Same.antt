@@ -17,7 +17,7 @@ use Rattle.rules.proofs.Demand.{same-length, same-text, same-texts}
 use Rattle.record.specs.Alike.{Alike}
 use Rattle.record.proofs.Same.{same-no}
 use Rattle.streams.specs.Promises.{passNo}
-use Rattle.sheet_lines.specs.Sheet.{places, textBytes, totalBytes, firstOf, chartOf, totalNo, line, countsLine, sheetNo, sheetKinds, textLines, sheetBytes}
+use Rattle.sheet_lines.specs.Sheet.{places, textBytes, totalBytes, firstRefusal, chartOf, totalNo, line, countsLine, sheetNo, sheetKinds, textLines, sheetBytes}
 
 same-lines : (ks : List Kind) (a b : List ℕ) → classes a ≡ classes b → textLines ks a ≡ textLines ks b
 same-lines [] a b e = refl
@@ -41,7 +41,7 @@ module _ (a b : List ℕ) (s : Alike a b) where
       four (ap (λ (n : ℕ). firstNo (question 13 (leb n 16384) ∷ [])) (s .long)) (same-no a b s places places refl)
       (same-pass (chartOf a) (chartOf b) e places places textBytes) (same-total (chartOf a) (chartOf b) e totalBytes)
     where
-      four : {w x y z w′ x′ y′ z′ : ℕ} → w ≡ w′ → x ≡ x′ → y ≡ y′ → z ≡ z′ → firstOf (w ∷ x ∷ y ∷ z ∷ []) ≡ firstOf (w′ ∷ x′ ∷ y′ ∷ z′ ∷ [])
+      four : {w x y z w′ x′ y′ z′ : ℕ} → w ≡ w′ → x ≡ x′ → y ≡ y′ → z ≡ z′ → firstRefusal (w ∷ x ∷ y ∷ z ∷ []) ≡ firstRefusal (w′ ∷ x′ ∷ y′ ∷ z′ ∷ [])
       four p q r t = cc
 
   pub same-sheet : sheetBytes a ≡ sheetBytes b

@@ -8,7 +8,7 @@ use lib.ListN.{length, replicate}
 use Rattle.number.specs.Digits.{digits}
 use Rattle.number.specs.Questions.{Question, question, firstNo, accepted, filled, roomFor}
 use Rattle.rules.specs.Bytes.{bytes}
-use Rattle.rules.specs.Chart.{inDomain, classes, counts}
+use Rattle.rules.specs.Chart.{inDomain, classes, counts, countNumbers}
 use Rattle.rules.specs.declared.Kind.{Kind}
 use Rattle.rules.specs.declared.Kind.the-variants.{Standard as standard}
 use Rattle.rules.specs.Texts.{text, passKinds}
@@ -33,10 +33,10 @@ abbrev pub totalBytes : List ℕ
 totalBytes = replicate 32 0
 
 -- the first number that is not 0
-abbrev pub firstOf : List ℕ → ℕ
-firstOf [] = 0
-firstOf (zero ∷ ns) = firstOf ns
-firstOf (suc n ∷ ns) = suc n
+abbrev pub firstRefusal : List ℕ → ℕ
+firstRefusal [] = 0
+firstRefusal (zero ∷ ns) = firstRefusal ns
+firstRefusal (suc n ∷ ns) = suc n
 
 -- the chart of a record: the densities in its whole fields
 abbrev pub chartOf : List ℕ → List ℕ
@@ -50,7 +50,7 @@ totalNo m old = firstNo (inDomain m ∷ roomFor (text (standard Level.Total) m) 
 unfoldable pub sheetNo : List ℕ → ℕ
 sheetNo input =
     let m = chartOf input in
-    firstOf
+    firstRefusal
     (firstNo (inputFits input ∷ [])
     ∷ recordNo input places
     ∷ passNo m places places textBytes
@@ -61,17 +61,15 @@ sheetNo input =
 abbrev pub line : List ℕ → List ℕ
 line xs = xs ++ (10 ∷ [])
 
-abbrev pub spaced : List ℕ → List ℕ
-spaced [] = []
-spaced (n ∷ []) = digits n
-spaced (n ∷ k ∷ ns) = digits n ++ (bytes " " ++ spaced (k ∷ ns))
+-- numbers parted by one space
+abbrev pub partedBySpaces : List ℕ → List ℕ
+partedBySpaces [] = []
+partedBySpaces (n ∷ []) = digits n
+partedBySpaces (n ∷ k ∷ ns) = digits n ++ (bytes " " ++ partedBySpaces (k ∷ ns))
 
 -- run16 run20 run24 run32 total_breaks sn_breaks
-abbrev pub numbers : StreamCounts → List ℕ
-numbers c = c .«run16_streams» ∷ c .«run20_streams» ∷ c .«run24_streams» ∷ c .«run32_streams» ∷ c .«total_breaks» ∷ c .«sn_breaks» ∷ []
-
 abbrev pub countsLine : StreamCounts → List ℕ
-countsLine c = spaced (numbers c)
+countsLine c = partedBySpaces (countNumbers c)
 
 -- the seven texts in the order of their lines
 abbrev pub sheetKinds : List Kind

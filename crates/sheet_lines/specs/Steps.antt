@@ -11,7 +11,7 @@ use Rattle.rules.specs.Bytes.{bytes}
 use Rattle.rules.specs.Chart.{classes, counts}
 use Rattle.rules.specs.declared.StreamCounts.{StreamCounts}
 use Rattle.streams.specs.Promises.{passNo}
-use Rattle.sheet_lines.specs.Sheet.{places, textBytes, totalBytes, firstOf, totalNo, line, countsLine, sheetKinds, textLines}
+use Rattle.sheet_lines.specs.Sheet.{places, textBytes, totalBytes, firstRefusal, totalNo, line, countsLine, sheetKinds, textLines}
 
 -- the bytes xs at the slice's start, later places as they were; r is their number
 pub record AtStart (old new xs : List ℕ) (r : ℕ) : Type 0 where
@@ -28,13 +28,13 @@ pub record NameRoom (name out : List ℕ) : Type 0 where
   pub most : 66048 ≤ length out
 
 -- the line of a refusal
-abbrev pub refusal : ℕ → List ℕ
-refusal n = line (bytes "refused " ++ digits n)
+abbrev pub refusalLine : ℕ → List ℕ
+refusalLine n = line (bytes "refused " ++ digits n)
 
 -- numbers, each behind a space
-abbrev pub led : List ℕ → List ℕ
-led [] = []
-led (n ∷ ns) = (bytes " " ++ digits n) ++ led ns
+abbrev pub eachAfterSpace : List ℕ → List ℕ
+eachAfterSpace [] = []
+eachAfterSpace (n ∷ ns) = (bytes " " ++ digits n) ++ eachAfterSpace ns
 
 abbrev pub sum : List ℕ → ℕ
 sum [] = 0
@@ -59,10 +59,10 @@ pub record LinesRoom (out name : List ℕ) (c : StreamCounts) (texts ns total : 
   pub room : Room out 0 (allLines name c texts ns total)
 
 -- the number of the first no of the pass and of Total
-unfoldable pub chartNo : List ℕ → ℕ
-chartNo m = firstOf (passNo m places places textBytes ∷ totalNo m totalBytes ∷ [])
+unfoldable pub textsNo : List ℕ → ℕ
+textsNo m = firstRefusal (passNo m places places textBytes ∷ totalNo m totalBytes ∷ [])
 
 -- what is printed for a record that was read: its name, and its chart m
 unfoldable pub chartBytes : List ℕ → List ℕ → List ℕ
 chartBytes name m =
-    accepted (chartNo m) (line name ++ (line (countsLine (counts (classes m))) ++ textLines sheetKinds m)) (refusal (chartNo m))
+    accepted (textsNo m) (line name ++ (line (countsLine (counts (classes m))) ++ textLines sheetKinds m)) (refusalLine (textsNo m))

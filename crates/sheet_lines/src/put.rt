@@ -7,7 +7,7 @@ ghost use mathlib.Core.List.{_++_};
 ghost use Rattle.number.specs.Digits.{digits};
 ghost use Rattle.rules.specs.Bytes.{bytes};
 ghost use Rattle.sheet_lines.specs.Sheet.{line, countsLine};
-ghost use Rattle.sheet_lines.specs.Steps.{AtStart, Roomy, refusal, led, cutLines, Cuts};
+ghost use Rattle.sheet_lines.specs.Steps.{AtStart, Roomy, refusalLine, eachAfterSpace, cutLines, Cuts};
 
 pub fn put_line(out: &mut [u8], at: usize, text: &[u8]) -> usize
     requires { ⌜ Room (now out) at (line (now text)) ⌝ }
@@ -28,8 +28,8 @@ fn put_spaced(out: &mut [u8], at: usize, n: u32) -> usize
 
 // Numbers, each behind a space.
 fn put_numbers(out: &mut [u8], at: usize, numbers: &[u32]) -> usize
-    requires { ⌜ Room (now out) at (led (now numbers)) ⌝ }
-    ensures { λ r. ⌜ Wrote (now (out .entry)) (now (out .exit)) at (led (now (numbers .entry))) r ⌝ }
+    requires { ⌜ Room (now out) at (eachAfterSpace (now numbers)) ⌝ }
+    ensures { λ r. ⌜ Wrote (now (out .entry)) (now (out .exit)) at (eachAfterSpace (now (numbers .entry))) r ⌝ }
 {
     let mut place = at;
     let mut i: usize = 0;
@@ -77,7 +77,7 @@ pub fn put_texts(out: &mut [u8], at: usize, texts: &[u8], lengths: &[usize]) -> 
 // The only line of a refusal.
 pub fn put_refusal(out: &mut [u8], number: u32) -> usize
     requires { ⌜ Roomy (now out) ⌝ }
-    ensures { λ r. ⌜ AtStart (now (out .entry)) (now (out .exit)) (refusal number) r ⌝ }
+    ensures { λ r. ⌜ AtStart (now (out .entry)) (now (out .exit)) (refusalLine number) r ⌝ }
 {
     let a = put_bytes(out, 0, b"refused ");
     let b = put_u64(out, a, number as u64);

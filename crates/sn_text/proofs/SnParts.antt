@@ -20,17 +20,17 @@ use Rattle.rules.specs.Chart.{Token, token, class, len}
 use Rattle.rules.specs.Reduced.{Item, run, item, signOf, joins, joinFrom, short, absorb, dropOnes}
 use Rattle.rules.specs.Texts.{word, strung}
 use Rattle.rules.proofs.Steps.{drop-run, simple-run, short-long}
-use Rattle.measures.specs.Scan.{paired}
+use Rattle.rules.specs.Slices.{paired}
 use Rattle.text_buffer.specs.Buffer.{Added, Grown, goesOn}
 use Rattle.text_buffer.specs.Put.{Measured}
-use Rattle.text_buffer.specs.Behind.{Behind, firstClass}
+use Rattle.text_buffer.specs.MayFollow.{MayFollow, firstClass}
 use Rattle.sn_text.specs.Sn.{breakItem, breakTokens, shown}
 use Rattle.text_buffer.specs.Parts.{TokensBehind, PartRoom, PartWritten, PartMeasured}
 use Rattle.sn_text.specs.SnParts.{OpenRun, spaced, snOf, snPart, snOn, ended, longBreak, joinClass, TokenAt, RunAt, WithBreak, SideLength}
 use Rattle.text_buffer.specs.Words.{side}
 use Rattle.text_buffer.proofs.Bytes.{sign-one}
 use Rattle.text_buffer.proofs.Reading.{behind-low, run-behind}
-use Rattle.measures.proofs.Pairs.{none-left, slices-next}
+use Rattle.rules.proofs.Pairs.{none-left, slices-next}
 use Rattle.sn_text.proofs.Groups.{drop-append, after-run, after-join, after-apart, break-tokens, one-shows, short-shows, long-shows}
 use Rattle.text_buffer.proofs.Added.{added-none, added-room, added, grown-room, grown-added, step-room, step}
 use Rattle.text_buffer.specs.declared.buffer.Left.{Left}
@@ -137,7 +137,7 @@ module _ {cs ns : List ℕ} {i : ℕ} (a : TokenAt cs ns i) where
       })
 
   module _ (b : getD cs i 0 ≡ 0) where
-    left-behind : (1 ≤ getD ns i 0) × Behind 0 (drop (suc i) (paired cs ns))
+    left-behind : (1 ≤ getD ns i 0) × MayFollow 0 (drop (suc i) (paired cs ns))
     left-behind = let l = rw (first, b) at (a .behind) in (l .0 refl .1, l .1)
 
     pub run-inside : i + 1 < length cs
@@ -181,7 +181,7 @@ adjacent k c a z e = a .run (e ∙ rw z refl)
 pub record Opened (k : ℕ) (t : Token) (cs ns done : List ℕ) (u : Token) (i : ℕ) : Type 0 where
   pub whole : (more : List Token) → snPart k t cs ns more ≡ done ++ snOf k (u ∷ (drop i (paired cs ns) ++ more))
   pub run : class u ≢ 0
-  pub behind : Behind (class u) (drop i (paired cs ns))
+  pub behind : MayFollow (class u) (drop i (paired cs ns))
   pub small : len u ≤ len t + 4294967296 * i
   pub within : i ≤ length cs
 
@@ -354,16 +354,16 @@ module _ (t : Token) (n : ℕ) (h : 1 ≤ n) where
       two = rw (short-long 0 gone h) (drop-append (t ∷ []) (gone ∷ []))
 
 -- a token before others of a part, and what follows the part
-module _ (t : Token) (d n : ℕ) (us more : List Token) (b : Behind (class t) (token d n false ∷ us)) where
+module _ (t : Token) (d n : ℕ) (us more : List Token) (b : MayFollow (class t) (token d n false ∷ us)) where
   next-shown : shown 0 (t ∷ ((token d n false ∷ us) ++ more)) ≡ dropOnes (t ∷ []) ++ shown 0 ((token d n false ∷ us) ++ more)
   next-shown = go d b
     where
-      go : (d : ℕ) → Behind (class t) (token d n false ∷ us)
+      go : (d : ℕ) → MayFollow (class t) (token d n false ∷ us)
           → shown 0 (t ∷ ((token d n false ∷ us) ++ more)) ≡ dropOnes (t ∷ []) ++ shown 0 ((token d n false ∷ us) ++ more)
       go zero b = break-follows t n (b .0 refl .1) (us ++ more) (b .0 refl .0) (first-run us more (run-behind us (b .1)))
       go (suc d) b = run-follows t (token (suc d) n false) (us ++ more) (suc-ne-zero d)
 
-some-follow : (d n : ℕ) (us more : List Token) → Behind d us → 0 < length (shown 0 ((token d n false ∷ us) ++ more))
+some-follow : (d n : ℕ) (us more : List Token) → MayFollow d us → 0 < length (shown 0 ((token d n false ∷ us) ++ more))
 some-follow (suc d) n us more b = some-shown 0 (token (suc d) n false) (us ++ more) (suc-ne-zero d)
 some-follow zero n [] more b = absurd (b .0 refl)
 some-follow zero n (token e m s ∷ us) more b =
@@ -371,20 +371,20 @@ some-follow zero n (token e m s ∷ us) more b =
     rw (run-follows (token 0 n false) (token e m s) (us ++ more) r, length-append)
     (omega (arith, some-shown 0 (token e m s) (us ++ more) r))
 
-pub next-text : (t : Token) (d n : ℕ) (us more : List Token) → Behind (class t) (token d n false ∷ us)
+pub next-text : (t : Token) (d n : ℕ) (us more : List Token) → MayFollow (class t) (token d n false ∷ us)
     → snOf 0 (t ∷ ((token d n false ∷ us) ++ more)) ≡ ended 0 (dropOnes (t ∷ [])) ++ snOf 0 ((token d n false ∷ us) ++ more)
 next-text t d n us more b =
     rw (next-shown t d n us more b) (shown-before 0 (dropOnes (t ∷ [])) (shown 0 ((token d n false ∷ us) ++ more)) (some-follow d n us more (b .1)))
 
 -- the token at place i, behind which another follows
-module _ (cs ns : List ℕ) (i c : ℕ) (b : Behind c (drop i (paired cs ns))) (l : length cs ≡ length ns) (h : i + 1 < length cs) where
+module _ (cs ns : List ℕ) (i c : ℕ) (b : MayFollow c (drop i (paired cs ns))) (l : length cs ≡ length ns) (h : i + 1 < length cs) where
   here : drop i (paired cs ns) ≡ token (getD cs i 0) (getD ns i 0) false ∷ drop (suc i) (paired cs ns)
   here = slices-next cs ns i l (omega arith)
 
   there : drop (suc i) (paired cs ns) ≡ token (getD cs (suc i) 0) (getD ns (suc i) 0) false ∷ drop (suc (suc i)) (paired cs ns)
   there = slices-next cs ns (suc i) l (omega arith)
 
-  behind-on : Behind (getD cs i 0) (drop (suc i) (paired cs ns))
+  behind-on : MayFollow (getD cs i 0) (drop (suc i) (paired cs ns))
   behind-on = rw here at b .1
 
   text-on : (more : List Token) → snOf 0 (drop i (paired cs ns) ++ more)
@@ -412,10 +412,10 @@ module _ (c n : ℕ) (s : Bool) {cs ns : List ℕ} (b : TokensBehind c cs ns) (h
 pub record Summing (cs ns : List ℕ) (start total i : ℕ) : Type 0 where
   pub sum : (more : List Token) → start + length (snOf 0 (paired cs ns ++ more)) ≡ total + length (snOf 0 (drop i (paired cs ns) ++ more))
   pub earlier : ℕ
-  pub behind : Behind earlier (drop i (paired cs ns))
+  pub behind : MayFollow earlier (drop i (paired cs ns))
   pub short : total ≤ start + 23 * i
 
-pub summing-starts : (cs ns : List ℕ) (start c : ℕ) → Behind c (paired cs ns) → Summing cs ns start start 0
+pub summing-starts : (cs ns : List ℕ) (start c : ℕ) → MayFollow c (paired cs ns) → Summing cs ns start start 0
 summing-starts cs ns start c b = record { sum = λ more. refl; earlier = c; behind = b; short = omega arith }
 
 module _ {cs ns : List ℕ} {start total i : ℕ} (w : Summing cs ns start total i) where
@@ -451,10 +451,10 @@ pub record Listing (cs ns old out : List ℕ) (from : Left) (buf new : List ℕ)
   pub done : List ℕ
   pub whole : (more : List Token) → snOf 0 (paired cs ns ++ more) ≡ done ++ snOf 0 (drop i (paired cs ns) ++ more)
   pub earlier : ℕ
-  pub behind : Behind earlier (drop i (paired cs ns))
+  pub behind : MayFollow earlier (drop i (paired cs ns))
   pub wrote : Added old out from done buf new to
 
-pub listing-starts : (cs ns buf out : List ℕ) (from : Left) (c : ℕ) → Behind c (paired cs ns) → from .left ≤ 1984 → Listing cs ns buf out from buf out from 0
+pub listing-starts : (cs ns buf out : List ℕ) (from : Left) (c : ℕ) → MayFollow c (paired cs ns) → from .left ≤ 1984 → Listing cs ns buf out from buf out from 0
 listing-starts cs ns buf out from c b l = record { done = []; whole = λ more. refl; earlier = c; behind = b; wrote = added-none l }
 
 pub listing-low : {cs ns old out : List ℕ} {from : Left} {buf mid : List ℕ} {to : Left} {i : ℕ} → Listing cs ns old out from buf mid to i

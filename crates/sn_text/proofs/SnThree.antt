@@ -13,10 +13,9 @@ use Rattle.number.proofs.Split.{split}
 use Rattle.rules.specs.Chart.{Token, token}
 use Rattle.rules.specs.Reduced.{run, dropOnes}
 use Rattle.rules.specs.Texts.{word}
-use Rattle.rules.proofs.Cost.{total}
+use Rattle.rules.specs.Slices.{paired, total}
 use Rattle.rules.proofs.Steps.{drop-run, short-long}
-use Rattle.measures.specs.Scan.{paired}
-use Rattle.measures.proofs.Front.{total-append}
+use Rattle.rules.proofs.Cost.{total-append}
 use Rattle.text_buffer.specs.Buffer.{Grown}
 use Rattle.text_buffer.specs.Parts.{TokensBehind}
 use Rattle.text_buffer.specs.Runs.{runToken, runText}

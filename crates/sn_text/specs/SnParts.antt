@@ -11,8 +11,8 @@ use Rattle.rules.specs.Bytes.{bytes}
 use Rattle.rules.specs.Chart.{Token, token, class, len}
 use Rattle.rules.specs.Reduced.{Item, item}
 use Rattle.rules.specs.Texts.{word, strung}
-use Rattle.measures.specs.Scan.{paired}
-use Rattle.text_buffer.specs.Behind.{Behind}
+use Rattle.rules.specs.Slices.{paired}
+use Rattle.text_buffer.specs.MayFollow.{MayFollow}
 use Rattle.text_buffer.specs.Buffer.{Ready}
 use Rattle.text_buffer.specs.Parts.{PartMeasured, PartRoom, PartWritten, TokensBehind}
 use Rattle.text_buffer.specs.Runs.{runToken}
@@ -80,13 +80,13 @@ pub record TokenAt (cs ns : List ℕ) (i : ℕ) : Type 0 where
   pub long : length cs ≡ length ns
   pub inside : i < length cs
   pub earlier : ℕ
-  pub behind : Behind earlier (drop i (paired cs ns))
+  pub behind : MayFollow earlier (drop i (paired cs ns))
 
 -- from place i: a break of g (0: none), a run of class c and length n, and the tokens from `next` on
 pub record RunAt (cs ns : List ℕ) (i g c n next : ℕ) : Type 0 where
   pub rest : drop i (paired cs ns) ≡ breakTokens g ++ (token c n false ∷ drop next (paired cs ns))
   pub run : c ≢ 0
-  pub behind : Behind c (drop next (paired cs ns))
+  pub behind : MayFollow c (drop next (paired cs ns))
   pub on : next ≡ i + length (breakTokens g) + 1
   pub within : next ≤ length cs
 

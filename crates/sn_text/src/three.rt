@@ -12,7 +12,7 @@ ghost use Prim.Native.Nat.{ℕ, _+_, _^_, _≤_, _<_};
 ghost use mathlib.Core.Logic.{_≢_};
 ghost use mathlib.Core.List.{_∷_};
 ghost use lib.ListN.{length};
-ghost use Rattle.measures.specs.Scan.{paired};
+ghost use Rattle.rules.specs.Slices.{paired};
 ghost use Rattle.text_buffer.specs.Three.{ThreeAsked, ThreeGrown};
 ghost use Rattle.text_buffer.specs.Runs.{runToken};
 ghost use Rattle.text_buffer.specs.Words.{Words};

@@ -10,7 +10,7 @@ use borrow.Author.Tests.{le-leb, lt-leb}
 use Rattle.rules.specs.Chart.{Token, token}
 use Rattle.rules.specs.Reduced.{joinFrom, join}
 use Rattle.rules.proofs.Steps.{joins-long, join-not}
-use Rattle.text_buffer.specs.Behind.{firstClass}
+use Rattle.text_buffer.specs.MayFollow.{firstClass}
 use Rattle.standard_text.specs.Standard.{glue, merged}
 
 -- what a pending piece of n measures and the tokens after it are

@@ -17,17 +17,17 @@ use Rattle.number.proofs.Split.{split}
 use Rattle.rules.specs.Chart.{Token, token}
 use Rattle.rules.specs.Reduced.{item}
 use Rattle.rules.specs.Texts.{part, strung}
-use Rattle.measures.specs.Scan.{paired}
+use Rattle.rules.specs.Slices.{paired}
 use Rattle.text_buffer.specs.Put.{Measured}
-use Rattle.text_buffer.specs.Behind.{Behind}
+use Rattle.text_buffer.specs.MayFollow.{MayFollow}
 use Rattle.text_buffer.specs.Buffer.{Added, Grown, goesOn}
 use Rattle.standard_text.specs.Standard.{gapItem, standardFrom, standardPart}
 use Rattle.text_buffer.specs.Parts.{PartMeasured, PartRoom, PartWritten, TokensBehind}
-use Rattle.standard_text.specs.Filled.{doneText, doneTexts, Long, Standing, Filled}
+use Rattle.standard_text.specs.Filled.{doneText, doneTexts, Long, TokenPlace, Filled}
 use Rattle.text_buffer.specs.declared.buffer.Left.{Left}
 use Rattle.text_buffer.proofs.Added.{added-none, added-room, added, grown-added}
 use Rattle.standard_text.proofs.Pieces.{after-run, after-over, after-apart, none-before}
-use Rattle.measures.proofs.Pairs.{none-left, slices-next}
+use Rattle.rules.proofs.Pairs.{none-left, slices-next}
 
 -- ---- the text behind an open piece, by the token that follows
 
@@ -58,7 +58,7 @@ pub record RunFirst (ts : List Token) : Type 0 where
   pub here : ts ≡ token class len false ∷ rest
   pub run : class ≢ 0
 
-run-first : (cs ns : List ℕ) (i : ℕ) → Behind 0 (drop i (paired cs ns)) → RunFirst (drop i (paired cs ns))
+run-first : (cs ns : List ℕ) (i : ℕ) → MayFollow 0 (drop i (paired cs ns)) → RunFirst (drop i (paired cs ns))
 run-first [] ns zero h = absurd (h .0 refl)
 run-first [] ns (suc i) h = absurd (h .0 refl)
 run-first (c ∷ cs) [] zero h = absurd (h .0 refl)
@@ -66,14 +66,14 @@ run-first (c ∷ cs) [] (suc i) h = absurd (h .0 refl)
 run-first (c ∷ cs) (n ∷ ns) zero h = record { class = c; len = n; rest = paired cs ns; here = refl; run = λ e. h .0 e .0 refl }
 run-first (c ∷ cs) (n ∷ ns) (suc i) h = run-first cs ns i h
 
-pub standing-first : {cs ns : List ℕ} → TokensBehind 1 cs ns → Standing cs ns 0
+pub standing-first : {cs ns : List ℕ} → TokensBehind 1 cs ns → TokenPlace cs ns 0
 standing-first h = record { long = h .long; few = h .few; within = omega arith; last = 1; behind = h .behind }
 
-module _ {cs ns : List ℕ} {i : ℕ} (p : Standing cs ns i) (l : i < length cs) where
+module _ {cs ns : List ℕ} {i : ℕ} (p : TokenPlace cs ns i) (l : i < length cs) where
   pub token-next : drop i (paired cs ns) ≡ token (getD cs i 0) (getD ns i 0) false ∷ drop (i + 1) (paired cs ns)
   token-next = slices-next cs ns i (p .long) l ∙ rw add-one
 
-  pub standing-next : Standing cs ns (i + 1)
+  pub standing-next : TokenPlace cs ns (i + 1)
   standing-next =
       record { long = p .long; few = p .few; within = omega arith; last = getD cs i 0; behind = (rw token-next at (p .behind)) .1 }
 
@@ -81,7 +81,7 @@ module _ {cs ns : List ℕ} {i : ℕ} (p : Standing cs ns i) (l : i < length cs)
 
 pub record Step (b : Bool) (k : ℕ) (cs ns : List ℕ) (i n : ℕ) (s : Bool) (xs : List ℕ) (next m : ℕ) (t : Bool) : Type 0 where
   pub whole : (more : List Token) → standardFrom b k n s (drop i (paired cs ns) ++ more) ≡ xs ++ standardFrom b k m t (drop next (paired cs ns) ++ more)
-  pub standing : Standing cs ns next
+  pub standing : TokenPlace cs ns next
   pub small : m + 4294967296 * i ≤ n + 4294967296 * next
 
 pub filled-step : {cs ns : List ℕ} {k i n : ℕ} {s : Bool} {next m : ℕ} {t : Bool} {count : ℕ} {ls : List ℕ} {ts : List Bool} {gs : List ℕ} (b : Bool)
@@ -99,7 +99,7 @@ turn-small false n g h = omega arith
 abbrev pub gapOf : ℕ → ℕ → ℕ
 gapOf c g = cond (eqb c 0) g 0
 
-module _ {cs ns : List ℕ} {i : ℕ} (p : Standing cs ns i) (l : i < length cs) (k n : ℕ) (s : Bool) where
+module _ {cs ns : List ℕ} {i : ℕ} (p : TokenPlace cs ns i) (l : i < length cs) (k n : ℕ) (s : Bool) where
   abbrev c : ℕ
   c = getD cs i 0
 
@@ -205,7 +205,7 @@ module _ (b : Bool) (ls : List ℕ) (ts : List Bool) (gs : List ℕ) (i : ℕ) {
 
 -- ---- the loop of `fill`
 
-pub filled-starts : {cs ns : List ℕ} (k n : ℕ) (s : Bool) (ls : List ℕ) (ts : List Bool) (gs : List ℕ) {i : ℕ} → Standing cs ns i → Filled cs ns k i n s i n s 0 ls ts gs
+pub filled-starts : {cs ns : List ℕ} (k n : ℕ) (s : Bool) (ls : List ℕ) (ts : List Bool) (gs : List ℕ) {i : ℕ} → TokenPlace cs ns i → Filled cs ns k i n s i n s 0 ls ts gs
 filled-starts k n s ls ts gs p = record { whole = λ b more. refl; standing = p; few = omega arith; small = omega arith }
 
 module _ {cs ns : List ℕ} {k i n : ℕ} {s : Bool} {j m : ℕ} {t : Bool} {count : ℕ} {ls : List ℕ} {ts : List Bool} {gs : List ℕ}
@@ -231,7 +231,7 @@ module _ {cs ns : List ℕ} {k i n : ℕ} {s : Bool} {j m : ℕ} {t : Bool} {cou
 
 module _ (b : Bool) (k n : ℕ) (s : Bool) (cs ns old out : List ℕ) (from : Left) where
   pub record Parted (buf new : List ℕ) (to : Left) (i m : ℕ) (t : Bool) : Type 0 where
-    pub standing : Standing cs ns i
+    pub standing : TokenPlace cs ns i
     pub small : m ≤ n + 4294967296 * i
     pub written : PartWritten (standardPart b k n s cs ns) (λ more. standardFrom b k m t (drop i (paired cs ns) ++ more)) old out from buf new to
 
@@ -279,7 +279,7 @@ nothing = record { number = refl; short = omega arith }
 
 module _ (b : Bool) (k n : ℕ) (s : Bool) (cs ns : List ℕ) where
   pub record Counting (total i m : ℕ) (t : Bool) : Type 0 where
-    pub standing : Standing cs ns i
+    pub standing : TokenPlace cs ns i
     pub small : m ≤ n + 4294967296 * i
     pub short : total ≤ 47 * i
     pub sum : (more : List Token) → length (standardPart b k n s cs ns more) ≡ total + length (standardFrom b k m t (drop i (paired cs ns) ++ more))

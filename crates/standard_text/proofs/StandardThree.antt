@@ -14,15 +14,14 @@ use Rattle.number.proofs.Split.{split}
 use Rattle.number.specs.Digits.{digits}
 use Rattle.rules.specs.Chart.{Token, token}
 use Rattle.rules.specs.Texts.{part, star}
-use Rattle.rules.proofs.Cost.{total}
-use Rattle.measures.specs.Scan.{paired}
+use Rattle.rules.specs.Slices.{paired, total}
 use Rattle.text_buffer.specs.Buffer.{Grown}
 use Rattle.text_buffer.specs.Parts.{TokensBehind}
 use Rattle.text_buffer.proofs.Bytes.{measures-short, star-short, sign-short, sign-long}
 use Rattle.text_buffer.proofs.Growing.{grown as grown-on, grown-none}
-use Rattle.measures.proofs.Pairs.{none-left}
+use Rattle.rules.proofs.Pairs.{none-left}
 use Rattle.standard_text.specs.Standard.{gapItem, standardFrom}
-use Rattle.standard_text.specs.Filled.{doneText, Standing}
+use Rattle.standard_text.specs.Filled.{doneText, TokenPlace}
 use Rattle.standard_text.specs.StandardThree.{OpenedIn}
 use Rattle.standard_text.proofs.StandardParts.{run-text, over-text, apart-text, token-next, standing-first, standing-next}
 
@@ -58,7 +57,7 @@ pub record GapAt (cs ns : List ℕ) (i : ℕ) : Type 0 where
   pub run : getD cs (i + 1) 0 ≢ 0
   pub tokens : drop i (paired cs ns) ≡ token 0 (getD ns i 0) false ∷ token (getD cs (i + 1) 0) (getD ns (i + 1) 0) false ∷ drop (i + 1 + 1) (paired cs ns)
 
-pub gap-at : {cs ns : List ℕ} {i : ℕ} → Standing cs ns i → i < length cs → getD cs i 0 ≡ 0 → GapAt cs ns i
+pub gap-at : {cs ns : List ℕ} {i : ℕ} → TokenPlace cs ns i → i < length cs → getD cs i 0 ≡ 0 → GapAt cs ns i
 gap-at {cs} {ns} {i} p l z =
     let h = rw (token-next p l, z) at (p .behind) in
     let inside : i + 1 < length cs = split (leb (length cs) (i + 1))
@@ -78,7 +77,7 @@ pub record Walking (b : Bool) (k n : ℕ) (cs ns old buf : List ℕ) (place i m 
   pub done : List ℕ
   pub text : standardFrom b k n false (paired cs ns) ≡ done ++ standardFrom b k m t (drop i (paired cs ns))
   pub grown : Grown old buf 0 done place
-  pub standing : Standing cs ns i
+  pub standing : TokenPlace cs ns i
   pub low : place ≤ 11 * i
   pub few : m + total (drop i (paired cs ns)) ≤ 1048576
 

@@ -9,7 +9,7 @@ use Rattle.rules.specs.Reduced.{Item, gap, item, signOf, join, sumOf}
 use Rattle.rules.specs.declared.Kind.the-variants.{Standard as standard}
 use Rattle.rules.specs.Texts.{part, strung, render}
 use Rattle.rules.specs.declared.StreamBreakdownLevel.the-variants as Level
-use Rattle.measures.specs.Scan.{paired}
+use Rattle.rules.specs.Slices.{paired}
 
 -- a token before pieces and gaps: a run is added to a piece that follows
 abbrev pub glue : Token → List Token → List Token

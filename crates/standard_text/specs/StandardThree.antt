@@ -7,7 +7,7 @@ use mathlib.Core.Bool.{Bool, true, false}
 use mathlib.Core.List.{List, [], _∷_, _++_}
 use lib.ListN.{length}
 use Rattle.rules.specs.Chart.{Token, token}
-use Rattle.measures.specs.Scan.{paired}
+use Rattle.rules.specs.Slices.{paired}
 use Rattle.text_buffer.specs.Buffer.{Grown}
 use Rattle.text_buffer.specs.Words.{Words}
 use Rattle.standard_text.specs.Standard.{standardFrom}

@@ -3,7 +3,7 @@ ghost use mathlib.Core.Path.{_≡_};
 ghost use mathlib.Core.Bool.{cond, false, _||_};
 ghost use Prim.Native.Nat.{_<_, _≤_, _+_, _^_};
 ghost use lib.ListN.{length};
-ghost use Rattle.standard_text.specs.Filled.{Filled, Long, Standing};
+ghost use Rattle.standard_text.specs.Filled.{Filled, Long, TokenPlace};
 
 // A piece that may still grow.
 pub struct Piece {
@@ -46,7 +46,7 @@ pub fn fill(
     stars: &mut [bool; 16],
     gaps: &mut [u32; 16],
 ) -> FillEnd
-    requires { ⌜ Standing (now cs) (now ns) i × Long (now lengths) (now stars) (now gaps) × (piece .length ≤ 2 ^ 62 + 2 ^ 52) ⌝ }
+    requires { ⌜ TokenPlace (now cs) (now ns) i × Long (now lengths) (now stars) (now gaps) × (piece .length ≤ 2 ^ 62 + 2 ^ 52) ⌝ }
     ensures { λ r. ⌜ Filled (now (cs .entry)) (now (ns .entry)) limit i (piece .length) (piece .starred) (r .next) (r .piece .length) (r .piece .starred) (r .count) (now (lengths .exit)) (now (stars .exit)) (now (gaps .exit)) × Long (now (lengths .exit)) (now (stars .exit)) (now (gaps .exit)) × (r .count ≤ 16) × (i < length (now (cs .entry)) → i < r .next) ⌝ }
 {
     let left = cs.len() - i;

@@ -8,7 +8,7 @@ ghost use Prim.Native.Nat.{_+_, _^_, _≤_, _<_};
 ghost use mathlib.Core.Path.{_≡_};
 ghost use mathlib.Core.Bool.{true, false};
 ghost use lib.ListN.{length};
-ghost use Rattle.measures.specs.Scan.{paired};
+ghost use Rattle.rules.specs.Slices.{paired};
 ghost use Rattle.text_buffer.specs.Three.{ThreeAsked, ThreeGrown};
 ghost use Rattle.text_buffer.specs.Words.{Words};
 ghost use Rattle.standard_text.specs.Standard.{standardFrom};

@@ -17,8 +17,8 @@ use Rattle.rules.specs.declared.BreakdownMode.{BreakdownMode}
 use Rattle.rules.specs.declared.BreakdownMode.the-variants as Mode
 use Rattle.rules.specs.declared.Kind.the-variants.{Sn as sn, Standard as standard}
 use Rattle.rules.specs.declared.StreamBreakdownLevel.the-variants as Level
-use Rattle.rules.proofs.Cost.{total, total-runs, active-short}
-use Rattle.measures.specs.Scan.{paired}
+use Rattle.rules.specs.Slices.{paired, total}
+use Rattle.rules.proofs.Cost.{total-runs, active-short}
 use Rattle.text_buffer.specs.Parts.{TokensBehind}
 use Rattle.text_buffer.specs.Three.{ThreeAsked, ThreeGrown, ThreeRoom}
 use Rattle.text_buffer.specs.Words.{Words}

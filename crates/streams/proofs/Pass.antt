@@ -23,7 +23,8 @@ use Rattle.rules.specs.declared.BreakdownMode.the-variants as Mode
 use Rattle.rules.specs.declared.StreamBreakdownLevel.the-variants as Level
 use Rattle.rules.specs.declared.StreamCounts.{StreamCounts}
 use Rattle.rules.proofs.Bound.{text-most}
-use Rattle.measures.specs.Scan.{InSlices, paired}
+use Rattle.rules.specs.Slices.{paired}
+use Rattle.measures.specs.Scan.{InSlices}
 use Rattle.measures.proofs.Part.{part-runs}
 use Rattle.measures.proofs.Counted.{tokens-few}
 use Rattle.measures.proofs.Written.{withinC, withinN, back}

@@ -11,7 +11,7 @@ use Rattle.rules.specs.Texts.{passKinds, endToEnd, lengthsOf}
 use Rattle.rules.specs.declared.Kind.{Kind}
 use Rattle.rules.specs.declared.Kind.the-variants.{Sn as sn}
 use Rattle.rules.specs.declared.BreakdownMode.the-variants as Mode
-use Rattle.measures.specs.Scan.{paired}
+use Rattle.rules.specs.Slices.{paired}
 use Rattle.text_buffer.specs.Words.{Words}
 use Rattle.streams.specs.Promises.{passNo}
 use Rattle.streams.specs.declared.StreamOutputs.{StreamOutputs}

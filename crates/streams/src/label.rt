@@ -1,7 +1,7 @@
 // The standard text that a label of a given width shows.
 use crate::LabelWritten;
-use crate::kind::level_at;
-use crate::kind::level_number;
+use crate::level::level_at;
+use crate::level::level_number;
 use crate::text::put_text;
 use crate::text::text_due;
 use crate::text::text_fits;

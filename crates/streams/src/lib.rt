@@ -1,8 +1,8 @@
 // The calls that write texts.
 use rules::StreamCounts;
 
-pub mod kind;
 pub mod label;
+pub mod level;
 pub mod outputs;
 pub mod short;
 pub mod single;

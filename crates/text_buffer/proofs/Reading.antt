@@ -11,11 +11,11 @@ use Rattle.rules.specs.Chart.{classOf, classes, Token, token, runs}
 use Rattle.rules.specs.Calls.{stepAt}
 use Rattle.rules.specs.declared.ViewToken.{ViewToken}
 use Rattle.rules.proofs.Steps.{map-drop}
-use Rattle.rules.proofs.View.{leading, first-run}
-use Rattle.measures.proofs.Stepping.{run-fits}
-use Rattle.measures.specs.Scan.{paired}
+use Rattle.rules.specs.Slices.{leading, paired}
+use Rattle.rules.proofs.View.{first-run}
+use Rattle.rules.proofs.View.{run-fits}
 use Rattle.text_buffer.specs.Parts.{TokensBehind}
-use Rattle.text_buffer.specs.Behind.{Behind, Alternates, firstClass}
+use Rattle.text_buffer.specs.MayFollow.{MayFollow, Alternates, firstClass}
 
 -- ---- the first token of some measures
 
@@ -44,16 +44,16 @@ stepped (d ∷ m) h =
 
 -- ---- what stands behind a token
 
-pub opens-break : (ts : List Token) → Behind 0 ts → Alternates ts
+pub opens-break : (ts : List Token) → MayFollow 0 ts → Alternates ts
 opens-break [] h = tt
 opens-break (t ∷ ts) h = h
 
-pub run-behind : (ts : List Token) → Behind 0 ts → firstClass ts ≢ 0
+pub run-behind : (ts : List Token) → MayFollow 0 ts → firstClass ts ≢ 0
 run-behind [] h = h .0
 run-behind (token d n s ∷ ts) h = λ e. h .0 e .0 refl
 
 -- the class is at most 4
-pub behind-low : (c : ℕ) (ts : List Token) → Behind c ts → c ≤ 4
+pub behind-low : (c : ℕ) (ts : List Token) → MayFollow c ts → c ≤ 4
 behind-low c [] b = b .1
 behind-low c (token d n s ∷ ts) b = b .2
 

@@ -15,7 +15,7 @@ use Rattle.number.proofs.Split.{split}
 use Rattle.rules.specs.Bytes.{bytes}
 use Rattle.rules.specs.Reduced.{signOf}
 use Rattle.rules.specs.Texts.{mark, part, word}
-use Rattle.measures.specs.Scan.{upFrom}
+use Rattle.rules.specs.Slices.{upFrom}
 use Rattle.text_buffer.specs.Words.{side, Word, Words}
 
 one-byte : (a : ℕ) → a < 256 → Word (a ∷ []) (16777216 + a)

@@ -2,6 +2,6 @@ pub mod Put
 pub mod Words
 pub mod Buffer
 pub mod Runs
-pub mod Behind
+pub mod MayFollow
 pub mod Parts
 pub mod Three

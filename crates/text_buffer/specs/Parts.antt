@@ -8,8 +8,8 @@ use mathlib.Core.List.{List, _++_}
 use lib.ListN.{length, take}
 use Rattle.number.specs.Place.{Room}
 use Rattle.rules.specs.Chart.{Token}
-use Rattle.measures.specs.Scan.{paired}
-use Rattle.text_buffer.specs.Behind.{Behind, Alternates}
+use Rattle.rules.specs.Slices.{paired}
+use Rattle.text_buffer.specs.MayFollow.{MayFollow, Alternates}
 use Rattle.text_buffer.specs.Buffer.{Added}
 use Rattle.text_buffer.specs.declared.buffer.Left.{Left}
 
@@ -24,7 +24,7 @@ pub record TokensBehind (c : ℕ) (cs ns : List ℕ) : Type 0 where
   pub long : length cs ≡ length ns
   pub few : length cs ≤ 1048576
   pub run : c ≢ 0
-  pub behind : Behind c (paired cs ns)
+  pub behind : MayFollow c (paired cs ns)
 
 -- `textOf` says the text by what follows this part: room for what stands in the buffer and for it, whatever follows
 pub record PartRoom (textOf : List Token → List ℕ) (buf out : List ℕ) (from : Left) : Type 0 where

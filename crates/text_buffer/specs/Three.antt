@@ -4,8 +4,7 @@ use Prim.Native.Nat.{ℕ, _+_, _*_, _≤_}
 use mathlib.Core.List.{List, _++_}
 use lib.ListN.{length, take}
 use Rattle.number.specs.Place.{Room}
-use Rattle.rules.proofs.Cost.{total}
-use Rattle.measures.specs.Scan.{paired}
+use Rattle.rules.specs.Slices.{paired, total}
 use Rattle.text_buffer.specs.Buffer.{Grown}
 use Rattle.text_buffer.specs.Parts.{TokensBehind}
 use Rattle.text_buffer.specs.Words.{Words}

@@ -51,7 +51,7 @@ use Rattle.rules.specs.declared.StreamSegment.{StreamSegment}
 use Rattle.rules.proofs.StreamSegment as S
 use Rattle.rules.proofs.StreamSegment.Laws as S′
 use Rattle.segments.specs.Promises.{Segmented}
-use Rattle.segments.specs.Turns.{firstTurn, nextTurn}
+use Rattle.segments.specs.Turns.{initialTurn, nextTurn}
 use Rattle.segments.specs.declared.SegmentsAnswer.{SegmentsAnswer}
 use Rattle.segments.specs.declared.turns.Turn.{Turn}
 use Rattle.segments.proofs.Written.{due, due-fits, filled-due, answerOf, filled-length, filled-more, Left, first-left}
@@ -162,8 +162,8 @@ module _ {M : Type 1} (𝓤 : URA M) (H : Heap 𝓤) (A : Atoms 𝓤) (W : Given
       nothing ! $ owned ! T.the-row (Is T.the-row) (LL.makes T.the-type T′.the-plain 𝓤 H A) t _ is $ fjoin ! $ move ! (1 ∷ 0 ∷ []) $ fjoin ! $ done !
 
   -- of a callee's `ensured`, the clause alone: neither has a `&mut`, so what is said of last values is dropped
-  said-first : (r : Turn) → ent 𝓤 (ensured 𝓤 H A fst.ended (fst.clauses 𝓤 H A mem run) (κ, tt) (x, (length old, tt)) tt r) (fact 𝓤 (r ≡ firstTurn ms (length old)))
-  said-first r = exE 𝓤 _ (λ ws. snd∗ 𝓤 (sem 𝓤 H A (lasts fst.ended (κ, tt) (x, (length old, tt)) ws)) (fact 𝓤 (r ≡ firstTurn ms (length old))))
+  said-first : (r : Turn) → ent 𝓤 (ensured 𝓤 H A fst.ended (fst.clauses 𝓤 H A mem run) (κ, tt) (x, (length old, tt)) tt r) (fact 𝓤 (r ≡ initialTurn ms (length old)))
+  said-first r = exE 𝓤 _ (λ ws. snd∗ 𝓤 (sem 𝓤 H A (lasts fst.ended (κ, tt) (x, (length old, tt)) ws)) (fact 𝓤 (r ≡ initialTurn ms (length old))))
 
   said-next : (t r : Turn) → ent 𝓤 (ensured 𝓤 H A nxt.ended (nxt.clauses 𝓤 H A mem run) (κ, tt) (x, (t, tt)) tt r) (fact 𝓤 (r ≡ nextTurn ms t))
   said-next t r = exE 𝓤 _ (λ ws. snd∗ 𝓤 (sem 𝓤 H A (lasts nxt.ended (κ, tt) (x, (t, tt)) ws)) (fact 𝓤 (r ≡ nextTurn ms t)))
@@ -313,7 +313,7 @@ module _ {M : Type 1} (𝓤 : URA M) (H : Heap 𝓤) (A : Atoms 𝓤) (W : Given
       move ! (0 ∷ 2 ∷ []) $ use2 W (raw (First 𝓤 H A mem run .pre to-first)) goes-first $
       calls-at ! (fmOf 𝓤 H (W .laws) 𝓣) (First 𝓤 H A mem run) known-first to-first (and-then ! (load ! (from ! (stop !)) (look ! 16 refl)) (and-then ! (load ! (from ! (stop !)) (look ! 10 refl)) (no-more !))) (λ w.
       use1 W (later (some (λ (t : Turn). ((‵ (flft κ q) ⊛ ‵ ftrue) ⊛ ‵ (T.the-row .own t (w ∷ []))) ⊛ raw (ensured 𝓤 H A fst.ended (fst.clauses 𝓤 H A mem run) (κ, tt) (x, (length old, tt)) tt t)))) (id⊢ 𝓤 _) $ await ! tt $ pick ! (λ t.
-      split ! $ move ! (1 ∷ []) $ use1 W (raw (fact 𝓤 (t ≡ firstTurn ms (length old)))) (said-first t) $ heard ! (t ≡ firstTurn ms (length old)) (λ e. split ! $ move ! (1 ∷ []) $
+      split ! $ move ! (1 ∷ []) $ use1 W (raw (fact 𝓤 (t ≡ initialTurn ms (length old)))) (said-first t) $ heard ! (t ≡ initialTurn ms (length old)) (λ e. split ! $ move ! (1 ∷ []) $
       peeks ! T.the-row (Is T.the-row) (shows 𝓤 H A T.the-row) t (w ∷ []) (λ is.
       land ! (from ! (stop !)) (init ! 13 refl (LL.lawful T.the-type T′.the-laws 𝓤 H A W .typed t _ is .0)) $
       rewrite ! 13 (λ (z : Val). ‵ (fat fullShare T′.mir l₃ 0 z)) (ap only (LL.tells T.the-type T′.the-laws t _ is)) refl $

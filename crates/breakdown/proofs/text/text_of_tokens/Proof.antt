@@ -4,7 +4,7 @@ use mathlib.Core.Path.{_≡_}
 use mathlib.Core.List.{[], _++_, append-nil}
 use native.Mathlib.Omega.{arith}
 use borrow.Author.Needs.{needs}
-use Rattle.measures.specs.Scan.{paired}
+use Rattle.rules.specs.Slices.{paired}
 use Rattle.text_buffer.specs.Runs.{runText}
 use Rattle.breakdown.specs.Forms.{textOf}
 use Rattle.text_buffer.proofs.Growing.{within}

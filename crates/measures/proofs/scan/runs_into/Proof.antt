@@ -1,4 +1,4 @@
--- `measures::scan::runs_into` meets its contract: the loop's invariant and its steps are `Going`'s. A chain of `.before` leads from a
+-- `measures::scan::runs_into` meets its contract: the loop's invariant and its steps are `ScanInvariant`'s. A chain of `.before` leads from a
 -- place of the code to an earlier one.
 -- Assumes nothing.
 use Prim.Native.Nat.{ℕ, _+_, _-_, _≤_}
@@ -7,25 +7,25 @@ use mathlib.Core.List.{List}
 use native.Mathlib.Omega.{arith}
 use lib.ListN.{length, set}
 use borrow.Author.Needs.{needs}
-use Rattle.measures.specs.Scan.{Going, Steps}
-use Rattle.measures.proofs.Going.{empty, starts, room, skipped, places, longC, longN, stopped, finished}
+use Rattle.measures.specs.Scan.{ScanInvariant, Steps}
+use Rattle.measures.proofs.ScanInvariant.{empty, starts, room, skipped, places, longC, longN, stopped, finished}
 use Rattle.measures.proofs.scan.runs_into.Statement.{statement}
 use Rattle.measures.proofs.scan.runs_into.Tie as tie
 
 -- the invariant speaks of what the slices hold where the loop begins, and not where the function does: so it says that what is so there stays so
 abbrev Inv-loop : tie.InvT-loop
 Inv-loop m cs₀ ns₀ table most c p₀ i₀ cs ns p i =
-    (old new : List ℕ) → Going m old new cs₀ ns₀ most (p₀ .class) (p₀ .length) (p₀ .place) i₀ → Going m old new cs ns most (p .class) (p .length) (p .place) i
+    (old new : List ℕ) → ScanInvariant m old new cs₀ ns₀ most (p₀ .class) (p₀ .length) (p₀ .place) i₀ → ScanInvariant m old new cs ns most (p .class) (p .length) (p .place) i
 
 abbrev μ-loop : tie.MeasureT-loop
 μ-loop m cs₀ ns₀ table most c p₀ i₀ cs ns p i = length m - i
 
 -- the loop's head, over what the function's entry had in the slices
-going : (c : tie.At-loop Inv-loop μ-loop) →
+invariant : (c : tie.At-loop Inv-loop μ-loop) →
     let s = c .before .before .before .before .before .before .before .args in
     let l = c .loop in
-    Going (s .m .now) (s .cs .now) (s .ns .now) (l .cs) (l .ns) (s .most) (l .p .class) (l .p .length) (l .p .place) (l .i)
-going c =
+    ScanInvariant (s .m .now) (s .cs .now) (s .ns .now) (l .cs) (l .ns) (s .most) (l .p .class) (l .p .length) (l .p .place) (l .i)
+invariant c =
     let s = c .before .before .before .before .before .before .before in
     c .loop .inv (s .args .cs .now) (s .args .ns .now)
     (rw (c .before .class-at .ensures) (starts (s .args .m .now) (s .args .cs .now) (s .args .ns .now) (s .args .most) (omega arith) (s .pre .roomC) (s .pre .roomN)))
@@ -35,8 +35,8 @@ on : (c : tie.After-run-on Inv-loop μ-loop) (old new : List ℕ) →
     let s = c .before .before .before .before .before .before .before .before .before .before .args in
     let l = c .before .before .before .loop in
     let n = l .p .length + (c .run-on .result - l .i) in
-    Going (s .m .now) old new (l .cs) (l .ns) (s .most) (l .p .class) (l .p .length) (l .p .place) (l .i)
-    → Going (s .m .now) old new (l .cs) (set (l .ns) (l .p .place) n) (s .most) (l .p .class) n (l .p .place) (c .run-on .result)
+    ScanInvariant (s .m .now) old new (l .cs) (l .ns) (s .most) (l .p .class) (l .p .length) (l .p .place) (l .i)
+    → ScanInvariant (s .m .now) old new (l .cs) (set (l .ns) (l .p .place) n) (s .most) (l .p .class) n (l .p .place) (c .run-on .result)
 on c old new g = skipped g (c .run-on .ensures)
 
 -- .. then step by step
@@ -57,7 +57,7 @@ ready c count h b =
       low = omega (arith, c .before .if2 .left);
       old = s .args .cs .now;
       new = s .args .ns .now;
-      going = on c _ _ (going (c .before .before .before));
+      invariant = on c _ _ (invariant (c .before .before .before));
     }
 
 returns : tie.Need-returns Inv-loop μ-loop
@@ -83,37 +83,37 @@ loop-holds : tie.Need-loop-holds Inv-loop μ-loop
 loop-holds c = λ old new g. g
 
 cast-i : tie.Need-cast-i Inv-loop μ-loop
-cast-i c = let g = going (c .before .before .before) in omega (arith, g .sum)
+cast-i c = let g = invariant (c .before .before .before) in omega (arith, g .sum)
 
 sub-i : tie.Need-sub-i Inv-loop μ-loop
-sub-i c = let g = going (c .before .before .before) in omega (arith, g .sum)
+sub-i c = let g = invariant (c .before .before .before) in omega (arith, g .sum)
 
 same-length : tie.Need-same-length Inv-loop μ-loop
-same-length c = longC (going (c .before .before .before))
+same-length c = longC (invariant (c .before .before .before))
 
 same-length-2 : tie.Need-same-length-2 Inv-loop μ-loop
-same-length-2 c = longN (going (c .before .before .before))
+same-length-2 c = longN (invariant (c .before .before .before))
 
 returns-2 : tie.Need-returns-2 Inv-loop μ-loop
-returns-2 c = stopped (going (c .before .before .before)) (c .before .before .loop-test .taken) (c .before .if2 .taken)
+returns-2 c = stopped (invariant (c .before .before .before)) (c .before .before .loop-test .taken) (c .before .if2 .taken)
 
 run-on-requires : tie.Need-run-on-requires Inv-loop μ-loop
-run-on-requires c κs = (omega arith, going (c .before .before) .small)
+run-on-requires c κs = (omega arith, invariant (c .before .before) .small)
 
 sub-p : tie.Need-sub-p Inv-loop μ-loop
 sub-p c = omega (arith, c .run-on .ensures .onward)
 
 cast-p : tie.Need-cast-p Inv-loop μ-loop
-cast-p c = let g = going (c .before .before .before) in omega (arith, c .run-on .ensures .within)
+cast-p c = let g = invariant (c .before .before .before) in omega (arith, c .run-on .ensures .within)
 
 add-p : tie.Need-add-p Inv-loop μ-loop
-add-p c = let g = going (c .before .before .before .before) in omega (arith, g .sum, c .before .run-on .ensures .within)
+add-p c = let g = invariant (c .before .before .before .before) in omega (arith, g .sum, c .before .run-on .ensures .within)
 
 mul-ns : tie.Need-mul-ns Inv-loop μ-loop
-mul-ns c = let g = going (c .before .before .before .before) in omega (arith, g .few)
+mul-ns c = let g = invariant (c .before .before .before .before) in omega (arith, g .few)
 
 slice-write-ns-2 : tie.Need-slice-write-ns-2 Inv-loop μ-loop
-slice-write-ns-2 c = places (going (c .before .before .before .before)) .1
+slice-write-ns-2 c = places (invariant (c .before .before .before .before)) .1
 
 sub-if3 : tie.Need-sub-if3 Inv-loop μ-loop
 sub-if3 c = omega (arith, c .before .run-on .ensures .within)
@@ -151,16 +151,16 @@ loop-again-2 c =
     λ old new g. rw e at (w .steps-into2 .ensures _ old new (omega (arith, r .before .if2 .left)) (on r old new (r .before .before .before .loop .inv old new g)))
 
 add-tokens : tie.Need-add-tokens Inv-loop μ-loop
-add-tokens c = let g = going (c .before .before) in omega arith
+add-tokens c = let g = invariant (c .before .before) in omega arith
 
 same-length-3 : tie.Need-same-length-3 Inv-loop μ-loop
-same-length-3 c = longC (going (c .before .before))
+same-length-3 c = longC (invariant (c .before .before))
 
 same-length-4 : tie.Need-same-length-4 Inv-loop μ-loop
-same-length-4 c = longN (going (c .before .before))
+same-length-4 c = longN (invariant (c .before .before))
 
 returns-3 : tie.Need-returns-3 Inv-loop μ-loop
-returns-3 c = finished (going (c .before .before)) (c .before .loop-test .left)
+returns-3 c = finished (invariant (c .before .before)) (c .before .loop-test .left)
 
 pub runs-into-spec : {M : Type 1} → statement M
 runs-into-spec =

@@ -1,4 +1,4 @@
--- `measures::scan::steps_into` meets its contract: the loop's invariant and its steps are `Going`'s.
+-- `measures::scan::steps_into` meets its contract: the loop's invariant and its steps are `ScanInvariant`'s.
 -- Assumes nothing.
 use Prim.Native.Nat.{ℕ, _+_, _-_, _≤_, _<_}
 use mathlib.Core.Path.{_≡_, _∙_, sym}
@@ -8,8 +8,8 @@ use native.Mathlib.Nat.{add-zero}
 use native.Mathlib.Omega.{arith}
 use lib.ListN.{length, set, length-set}
 use borrow.Author.Needs.{needs}
-use Rattle.measures.specs.Scan.{Going, Onward}
-use Rattle.measures.proofs.Going.{same, other, places, longC, longN}
+use Rattle.measures.specs.Scan.{ScanInvariant, Onward}
+use Rattle.measures.proofs.ScanInvariant.{same, other, places, longC, longN}
 use Rattle.measures.proofs.scan.steps_into.Statement.{statement}
 use Rattle.measures.proofs.scan.steps_into.Tie as tie
 
@@ -20,11 +20,11 @@ abbrev μ-loop : tie.MeasureT-loop
 μ-loop m from count cs₀ ns₀ table c₀ n₀ k₀ t₀ cs ns c n k t = count - t
 
 -- the loop's head
-going : (c : tie.At-loop Inv-loop μ-loop) →
+invariant : (c : tie.At-loop Inv-loop μ-loop) →
     let s = c .before .before .before .before in
     let l = c .loop in
-    Going (s .args .m .now) (s .pre .old) (s .pre .new) (l .cs) (l .ns) (s .pre .most) (l .c) (l .n) (l .k) (s .args .from + l .t)
-going c = let p = c .before .before .before .before .pre in c .loop .inv .0 (p .most) (p .old) (p .new) (omega arith) (p .going)
+    ScanInvariant (s .args .m .now) (s .pre .old) (s .pre .new) (l .cs) (l .ns) (s .pre .most) (l .c) (l .n) (l .k) (s .args .from + l .t)
+invariant c = let p = c .before .before .before .before .pre in c .loop .inv .0 (p .most) (p .old) (p .new) (omega arith) (p .invariant)
 
 -- one more measure
 step : (c : tie.Joined1 Inv-loop μ-loop) (most : ℕ) (old new : List ℕ) →
@@ -32,8 +32,8 @@ step : (c : tie.Joined1 Inv-loop μ-loop) (most : ℕ) (old new : List ℕ) →
     let l = c .before .before .before .before .loop in
     let d = c .before .class-at .result in
     l .k + 1 < most + 17
-    → Going (s .m .now) old new (l .cs) (l .ns) most (l .c) (l .n) (l .k) (s .from + l .t)
-    → Going (s .m .now) old new (set (l .cs) (c .if1 .k) d) (set (l .ns) (c .if1 .k) (c .if1 .n)) most d (c .if1 .n) (c .if1 .k) (s .from + (l .t + 1))
+    → ScanInvariant (s .m .now) old new (l .cs) (l .ns) most (l .c) (l .n) (l .k) (s .from + l .t)
+    → ScanInvariant (s .m .now) old new (set (l .cs) (c .if1 .k) d) (set (l .ns) (c .if1 .k) (c .if1 .n)) most d (c .if1 .n) (c .if1 .k) (s .from + (l .t + 1))
 step c most old new h g =
     let d = c .before .class-at .ensures in
     let f = c .before .before .before .before .before .before .before .before .args .from in
@@ -49,8 +49,8 @@ stepped : (c : tie.Joined1 Inv-loop μ-loop) →
     let s = c .before .before .before .before .before .before .before .before in
     let l = c .before .before .before .before .loop in
     let d = c .before .class-at .result in
-    Going (s .args .m .now) (s .pre .old) (s .pre .new) (set (l .cs) (c .if1 .k) d) (set (l .ns) (c .if1 .k) (c .if1 .n)) (s .pre .most) d (c .if1 .n) (c .if1 .k) (s .args .from + (l .t + 1))
-stepped c = step c _ _ _ (omega arith) (going (c .before .before .before .before))
+    ScanInvariant (s .args .m .now) (s .pre .old) (s .pre .new) (set (l .cs) (c .if1 .k) d) (set (l .ns) (c .if1 .k) (c .if1 .n)) (s .pre .most) d (c .if1 .n) (c .if1 .k) (s .args .from + (l .t + 1))
+stepped c = step c _ _ _ (omega arith) (invariant (c .before .before .before .before))
 
 -- .. has its place
 kept : (c : tie.Joined1 Inv-loop μ-loop) →
@@ -74,10 +74,10 @@ class-at-requires : tie.Need-class-at-requires Inv-loop μ-loop
 class-at-requires c κs = search needs
 
 add-n : tie.Need-add-n Inv-loop μ-loop
-add-n c = let g = going (c .before .before .before) in omega (arith, g .sum)
+add-n c = let g = invariant (c .before .before .before) in omega (arith, g .sum)
 
 add-k : tie.Need-add-k Inv-loop μ-loop
-add-k c = let g = going (c .before .before .before .before) in omega arith
+add-k c = let g = invariant (c .before .before .before .before) in omega arith
 
 slice-write-cs : tie.Need-slice-write-cs Inv-loop μ-loop
 slice-write-cs c = kept c .0
@@ -100,10 +100,10 @@ loop-again c =
     (λ most old new h g. step (c .before) most old new (omega arith) (l .inv .0 most old new (omega arith) g), omega arith, ⊎-elim (λ w. omega arith) (λ w. omega arith) (c .before .if1 .came))
 
 same-length : tie.Need-same-length Inv-loop μ-loop
-same-length c = longC (going (c .before)) ∙ sym (longC (c .before .before .before .before .before .pre .going))
+same-length c = longC (invariant (c .before)) ∙ sym (longC (c .before .before .before .before .before .pre .invariant))
 
 same-length-2 : tie.Need-same-length-2 Inv-loop μ-loop
-same-length-2 c = longN (going (c .before)) ∙ sym (longN (c .before .before .before .before .before .pre .going))
+same-length-2 c = longN (invariant (c .before)) ∙ sym (longN (c .before .before .before .before .before .pre .invariant))
 
 returns : tie.Need-returns Inv-loop μ-loop
 returns c =

@@ -6,7 +6,7 @@ use native.Mathlib.Omega.{arith}
 use lib.ListN.{length, drop}
 use borrow.Author.Needs.{needs}
 use Rattle.rules.specs.Chart.{classes}
-use Rattle.rules.proofs.View.{leading}
+use Rattle.rules.specs.Slices.{leading}
 use Rattle.measures.proofs.Stepping.{run-stop, run-more, run-end}
 use Rattle.measures.proofs.tokens.run_end.Statement.{statement}
 use Rattle.measures.proofs.tokens.run_end.Tie as tie

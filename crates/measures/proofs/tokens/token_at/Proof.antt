@@ -2,7 +2,8 @@
 -- Assumes nothing.
 use native.Mathlib.Omega.{arith}
 use borrow.Author.Needs.{needs}
-use Rattle.measures.proofs.Stepping.{run-fits, ended-at, token-from}
+use Rattle.rules.proofs.View.{run-fits}
+use Rattle.measures.proofs.Stepping.{ended-at, token-from}
 use Rattle.measures.proofs.tokens.token_at.Statement.{statement}
 use Rattle.measures.proofs.tokens.token_at.Tie as tie
 

@@ -2,7 +2,7 @@
 -- Assumes nothing.
 use mathlib.Core.List.{[], _∷_}
 use Rattle.number.proofs.Place.{room-first, room-next, wrote}
-use Rattle.sheet_lines.specs.Steps.{led}
+use Rattle.sheet_lines.specs.Steps.{eachAfterSpace}
 use Rattle.sheet_lines.proofs.Numbers.{others, counts-parts}
 use borrow.Author.Needs.{needs}
 use Rattle.sheet_lines.proofs.put.put_counts.Statement.{statement}
@@ -22,7 +22,7 @@ slice-aggregate-put-numbers c = search needs
 put-numbers-requires : tie.Need-put-numbers-requires
 put-numbers-requires c κs =
     let s = c .before .before .before .before .before .before .before .before in
-    room-first (led (others (s .args .counts))) (10 ∷ []) (room-next _ _ (c .before .before .before .before .put-u64 .ensures) (rw (counts-parts (s .args .counts)) at (s .pre)))
+    room-first (eachAfterSpace (others (s .args .counts))) (10 ∷ []) (room-next _ _ (c .before .before .before .before .put-u64 .ensures) (rw (counts-parts (s .args .counts)) at (s .pre)))
 
 slice-aggregate-put-bytes : tie.Need-slice-aggregate-put-bytes
 slice-aggregate-put-bytes c = search needs
@@ -31,7 +31,7 @@ put-bytes-requires : tie.Need-put-bytes-requires
 put-bytes-requires c κs =
     let s = c .before .before .before .before .before .before .before .before .before .before .before .before .before in
     let rest = room-next _ _ (c .before .before .before .before .before .before .before .before .before .put-u64 .ensures) (rw (counts-parts (s .args .counts)) at (s .pre)) in
-    room-next (led (others (s .args .counts))) (10 ∷ []) (c .before .before .before .before .put-numbers .ensures) rest
+    room-next (eachAfterSpace (others (s .args .counts))) (10 ∷ []) (c .before .before .before .before .put-numbers .ensures) rest
 
 same-length : tie.Need-same-length
 same-length c = search needs
@@ -39,7 +39,7 @@ same-length c = search needs
 returns : tie.Need-returns
 returns c =
     let counts = c .before .before .before .before .before .before .before .before .before .before .before .before .before .before .before .before .args .counts in
-    rw (counts-parts counts) (wrote _ _ (c .before .before .before .before .before .before .before .before .before .before .before .before .put-u64 .ensures) (wrote (led (others counts)) (10 ∷ []) (c .before .before .before .before .before .before .before .put-numbers .ensures) (c .before .before .put-bytes .ensures)))
+    rw (counts-parts counts) (wrote _ _ (c .before .before .before .before .before .before .before .before .before .before .before .before .put-u64 .ensures) (wrote (eachAfterSpace (others counts)) (10 ∷ []) (c .before .before .before .before .before .before .before .put-numbers .ensures) (c .before .before .put-bytes .ensures)))
 
 pub put-counts-spec : {M : Type 1} → statement M
 put-counts-spec =

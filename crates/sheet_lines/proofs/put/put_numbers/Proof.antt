@@ -4,14 +4,14 @@ use Prim.Native.Nat.{_-_, _≤_}
 use lib.ListN.{length, drop, drop-of-length-le}
 use Rattle.number.specs.Place.{Room}
 use Rattle.text_buffer.proofs.Reached.{Reached, starts, long, room-part, on, finished}
-use Rattle.sheet_lines.specs.Steps.{led}
+use Rattle.sheet_lines.specs.Steps.{eachAfterSpace}
 use Rattle.sheet_lines.proofs.Numbers.{number-chunk}
 use borrow.Author.Needs.{needs}
 use Rattle.sheet_lines.proofs.put.put_numbers.Statement.{statement}
 use Rattle.sheet_lines.proofs.put.put_numbers.Tie as tie
 
 abbrev Inv-loop : tie.InvT-loop
-Inv-loop out₀ at numbers place₀ i₀ out place i = (i ≤ length numbers) × Room out₀ at (led numbers) × Reached out₀ at (led numbers) (led (drop i numbers)) out place
+Inv-loop out₀ at numbers place₀ i₀ out place i = (i ≤ length numbers) × Room out₀ at (eachAfterSpace numbers) × Reached out₀ at (eachAfterSpace numbers) (eachAfterSpace (drop i numbers)) out place
 
 abbrev μ-loop : tie.MeasureT-loop
 μ-loop out₀ at numbers place₀ i₀ out place i = length numbers - i

@@ -1,4 +1,4 @@
--- The loops of `runs_into` and `steps_into`, as lists: how `Going` starts, what each step does to it, and what it says where the loop ends or stops.
+-- The loops of `runs_into` and `steps_into`, as lists: how `ScanInvariant` starts, what each step does to it, and what it says where the loop ends or stops.
 -- Nothing here speaks of code.
 -- Assumes nothing.
 use Prim.Native.Nat.{ℕ, zero, suc, _+_, _-_, _<_, _≤_}
@@ -14,12 +14,13 @@ use lib.Seq.{drop-cons, set-append-seam, append-snoc, take-at}
 use Rattle.rules.specs.Chart.{Token, token, class, len, classOf, classes, runsFrom, runs}
 use Rattle.rules.proofs.Shape.{class-below}
 use Rattle.rules.proofs.Steps.{run-longer, run-ended, map-drop}
-use Rattle.rules.proofs.Cost.{total}
+use Rattle.rules.specs.Slices.{paired, total}
 use Rattle.number.specs.Questions.{filled}
-use Rattle.measures.specs.Scan.{OfClass, Room, Going, FirstRuns, paired}
+use Rattle.measures.specs.Scan.{OfClass, RoomForRuns, ScanInvariant, FirstRuns}
 use Rattle.measures.proofs.Part.{class-of-place}
 use Rattle.measures.proofs.Counted.{paired-runs}
-use Rattle.measures.proofs.Front.{total-append, some-run, after, paired-front}
+use Rattle.rules.proofs.Cost.{total-append}
+use Rattle.measures.proofs.Front.{some-run, after, paired-front}
 use Rattle.measures.proofs.Written.{all-first}
 
 -- one more element written, and the last one written anew
@@ -46,23 +47,23 @@ longer m c (suc q) n i h same =
     ∙ (let e : suc n + q ≡ n + suc q = omega arith in let f : suc i + q ≡ i + suc q = omega arith in rw (e, f)))
 
 -- a place, where there is room
-place : (m : List ℕ) (most : ℕ) (s : List ℕ) {k : ℕ} → Room m most s → k < length (runs (classes m)) → k < most + 17 → k < length s
+place : (m : List ℕ) (most : ℕ) (s : List ℕ) {k : ℕ} → RoomForRuns m most s → k < length (runs (classes m)) → k < most + 17 → k < length s
 place m most s r h l = ⊎-elim (λ a. omega arith) (λ a. omega arith) r
 
 pub empty : (m : List ℕ) (most : ℕ) (cs ns : List ℕ) → length m ≡ 0 → FirstRuns m most cs cs ns ns (record { tokens = 0; next = 0 })
 empty [] most cs ns h = all-first [] most (record { number = refl; inClasses = refl; inLengths = refl })
 empty (x ∷ m) most cs ns h = absurd (omega arith)
 
-module _ {m cs₀ ns₀ cs ns : List ℕ} {most c n k i : ℕ} (g : Going m cs₀ ns₀ cs ns most c n k i) where
+module _ {m cs₀ ns₀ cs ns : List ℕ} {most c n k i : ℕ} (g : ScanInvariant m cs₀ ns₀ cs ns most c n k i) where
   -- there is a place for the pending token
-  placed : (s : List ℕ) → Room m most s → k < length s
+  placed : (s : List ℕ) → RoomForRuns m most s → k < length s
   placed s r =
       place m most s r
       (rw (← (g .whole), length-append, ← (g .written)) (omega (arith, some-run c n (drop i (classes m)))))
       (g .low)
 
   -- the slices are as long as they were
-  long-filled : (f : Token → ℕ) (old : List ℕ) (v : ℕ) → Room m most old → length (filled old (map f (g .done) ++ (v ∷ []))) ≡ length old
+  long-filled : (f : Token → ℕ) (old : List ℕ) (v : ℕ) → RoomForRuns m most old → length (filled old (map f (g .done) ++ (v ∷ []))) ≡ length old
   long-filled f old v r = let p = placed old r in simp (length-append, length-drop, length-map) (omega arith)
 
   pub longC : length cs ≡ length cs₀
@@ -112,7 +113,7 @@ module _ {m cs₀ ns₀ cs ns : List ℕ} {most c n k i : ℕ} (g : Going m cs�
   again f old new v w e = rw (e, g .written, ← (length-map (g .done) f)) (anew old (map f (g .done)) v w)
 
   -- on to place j, over measures of the pending class
-  pub skipped : {j : ℕ} → OfClass m i c j → Going m cs₀ ns₀ cs (set ns k (n + (j - i))) most c (n + (j - i)) k j
+  pub skipped : {j : ℕ} → OfClass m i c j → ScanInvariant m cs₀ ns₀ cs (set ns k (n + (j - i))) most c (n + (j - i)) k j
   skipped {j} s =
       let e : i + (j - i) ≡ j = omega arith in
       record {
@@ -137,7 +138,7 @@ module _ {m cs₀ ns₀ cs ns : List ℕ} {most c n k i : ℕ} (g : Going m cs�
     d = classOf (getD m i 0)
 
     -- .. of the pending class
-    pub same : classOf (getD m i 0) ≡ c → Going m cs₀ ns₀ (set cs k d) (set ns k (n + 1)) most d (n + 1) k (i + 1)
+    pub same : classOf (getD m i 0) ≡ c → ScanInvariant m cs₀ ns₀ (set cs k d) (set ns k (n + 1)) most d (n + 1) k (i + 1)
     same e =
         record {
           done = g .done;
@@ -159,7 +160,7 @@ module _ {m cs₀ ns₀ cs ns : List ℕ} {most c n k i : ℕ} (g : Going m cs�
       other-whole : (g .done ++ (token c n false ∷ [])) ++ runsFrom d 1 (drop (suc i) (classes m)) ≡ runs (classes m)
       other-whole = rw append-snoc (rw (next m i h, run-ended c n d (drop (suc i) (classes m)) (λ q. e (sym q))) at (g .whole))
 
-      other-placed : (s : List ℕ) → Room m most s → k + 1 < length s
+      other-placed : (s : List ℕ) → RoomForRuns m most s → k + 1 < length s
       other-placed s r =
           place m most s r
           (rw (← other-whole, length-append, length-append, ← (g .written)) (omega (arith, some-run d 1 (drop (suc i) (classes m)))))
@@ -171,7 +172,7 @@ module _ {m cs₀ ns₀ cs ns : List ℕ} {most c n k i : ℕ} (g : Going m cs�
           let l : length xs ≡ k + 1 = simp (length-append, length-map) (omega arith) in
           rw (e, map-snoc, ← l) (push old xs v (rw l r))
 
-      pub other : Going m cs₀ ns₀ (set cs (k + 1) d) (set ns (k + 1) 1) most d 1 (k + 1) (i + 1)
+      pub other : ScanInvariant m cs₀ ns₀ (set cs (k + 1) d) (set ns (k + 1) 1) most d 1 (k + 1) (i + 1)
       other =
           record {
             done = g .done ++ (token c n false ∷ []);
@@ -193,10 +194,10 @@ module _ (m cs ns : List ℕ) (most : ℕ) (h : 0 < length m) where
   first : runsFrom (classOf (getD m 0 0)) 1 (drop 1 (classes m)) ≡ runs (classes m)
   first = sym (ap runs (next m 0 h))
 
-  pub room : (s : List ℕ) → Room m most s → 0 < length s
+  pub room : (s : List ℕ) → RoomForRuns m most s → 0 < length s
   room s r = place m most s r (rw (← first) (some-run (classOf (getD m 0 0)) 1 (drop 1 (classes m)))) (omega arith)
 
-  pub starts : Room m most cs → Room m most ns → Going m cs ns (set cs 0 (classOf (getD m 0 0))) (set ns 0 1) most (classOf (getD m 0 0)) 1 0 1
+  pub starts : RoomForRuns m most cs → RoomForRuns m most ns → ScanInvariant m cs ns (set cs 0 (classOf (getD m 0 0))) (set ns 0 1) most (classOf (getD m 0 0)) 1 0 1
   starts roomC roomN =
       record {
         done = [];
