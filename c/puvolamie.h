@@ -4,8 +4,10 @@
  * passes as a pointer and the number of its elements, and no call keeps a pointer, allocates, prints or fails in another way than
  * by its answer. An array of 0 elements may have any pointer. Arrays that a call writes to may overlap no other array of the call.
  *
- * Each answer carries a number `refused`: 0 where the call is accepted, else the number of the first question that was answered
- * with no (below, in the order in which a call asks them). A refused call writes nothing, and all else in its answer is 0.
+ * An answer carries a number `refused`: 0 where the call is accepted, else the number of the first question that was answered
+ * with no (below; each call says in which order it asks them). A refused call writes nothing, and all else in its answer is 0 or
+ * false. Four answers carry no number: pv_categorize_measure_density, pv_active_range and pv_label_pair take whatever they are
+ * given, and pv_print_sheet gives the bytes to print, which for a refused record are the line "refused N".
  * An accepted call writes from an array's start and leaves the elements after what it wrote as they were. Texts have no final 0.
  */
 #ifndef PUVOLAMIE_H

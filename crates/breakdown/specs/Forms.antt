@@ -52,7 +52,7 @@ textOf f ts = cond (f .sn) (snOf (f .limit) ts) (standardOf (f .signs) (f .limit
 abbrev pub openText : Form → Run → List Token → List ℕ
 openText f r ts = cond (f .sn) (snOf (f .limit) (runToken r ∷ ts)) (standardFrom (f .signs) (f .limit) (r .length) (r .starred) ts)
 
--- .. where the tokens of one part come first
+-- the same, the tokens of one part coming first
 abbrev pub partText : Form → Run → List ℕ → List ℕ → List Token → List ℕ
 partText f r cs ns more = openText f r (paired cs ns ++ more)
 

@@ -78,7 +78,7 @@ fn text_part(
     }
 }
 
-// .. of a form.
+// A part of the text of a form.
 fn form_part(
     cs: &[u8],
     ns: &[u32],
@@ -189,7 +189,7 @@ pub fn text_of_measures(m: &[u32], form: Form, out: &mut [u8], at: usize) -> usi
     put_buffer(out, to.place, &buf, to.left)
 }
 
-// .. by way of an empty buffer.
+// The text of the measures by way of an empty buffer; the rest of it stands in the buffer.
 fn measures_text(
     m: &[u32],
     form: Form,

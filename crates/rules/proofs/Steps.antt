@@ -86,7 +86,7 @@ module _ (k : ℕ) (t u v : Token) (ts : List Token) where
   pub join-on : joins k t u v ≡ true → joinFrom k t (u ∷ v ∷ ts) ≡ joinFrom k (token (class t) (len t + len u + len v) true) ts
   join-on e = rw e
 
-  -- .. and do not
+  -- a break and a run follow, and do not join
   pub join-not : joins k t u v ≡ false → class v ≢ 0 → joinFrom k t (u ∷ v ∷ ts) ≡ t ∷ u ∷ joinFrom k v ts
   join-not e h = rw (e, join-run k u v ts h)
 

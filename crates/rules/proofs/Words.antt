@@ -127,7 +127,7 @@ star-solid : (s : Bool) → All solid true (star s)
 star-solid true = refl & none
 star-solid false = none
 
--- an SN item has no space ..
+-- an SN item has no space
 pub word-solid : (i : Item) → All solid true (word i)
 word-solid (run c n s) = each-append (mark-solid c) (each-append (digits-solid n) (each-append (mark-solid c) (star-solid s)))
 word-solid (gap n) = refl & each-append (digits-solid n) (refl & none)
@@ -146,7 +146,7 @@ mark-some (suc (suc (suc (suc c)))) xs h = tt
 pub number-some : (n : ℕ) (xs : List ℕ) → Some (digits n ++ xs)
 number-some n xs = some-append (digits n) xs (digits-some n)
 
--- .. and some byte
+-- an SN item has some byte
 pub word-some : (i : Item) → Fine i → Some (word i)
 word-some (run c n s) f = mark-some c _ (number-some n _)
 word-some (gap n) f = tt

@@ -36,11 +36,11 @@ said (token c n s ∷ ts) = record { ended = false; class = c; length = n }
 unfoldable pub stepAt : ℕ → List ℕ → ViewToken
 stepAt k m = said (drop k (runs (classes m)))
 
--- a step leaves the measures after its token ..
+-- a step leaves the measures after its token
 abbrev pub afterStep : List ℕ → List ℕ
 afterStep m = drop (stepAt 0 m .length) m
 
--- .. and k steps, each from the view that the step before left
+-- k steps leave these, each taken from the view that the step before left
 unfoldable pub afterSteps : ℕ → List ℕ → List ℕ
 afterSteps zero m = m
 afterSteps (suc k) m = afterSteps k (afterStep m)

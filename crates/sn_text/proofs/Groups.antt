@@ -33,7 +33,7 @@ module _ (k : ℕ) (t : Token) (rt : class t ≢ 0) where
         → shown k (t ∷ u ∷ v ∷ ts) ≡ shown k (token (class t) (len t + len u + len v) true ∷ ts)
     after-join v ts b l e = ap (λ l. dropOnes (absorb k l)) (join-on k t u v ts (joins-yes k t u v b l (sym e)))
 
-    -- .. or does not
+    -- a break follows, and no run joins over it
     pub after-apart : (ts : List Token) → firstClass ts ≢ 0 → (k < len u) ⊎ (firstClass ts ≢ class t)
         → shown k (t ∷ u ∷ ts) ≡ dropOnes (absorb k (t ∷ u ∷ [])) ++ shown k ts
     after-apart [] h a = absurd (h refl)

@@ -166,7 +166,7 @@ pub no-break : {cs ns : List ℕ} {i g d n next : ℕ} → RunAt cs ns i g d n n
 no-break {g = zero} a e = refl
 no-break {g = suc g} a e = absurd (omega (arith, a .on))
 
--- .. and elsewhere: a break
+-- the next run elsewhere: a break before it
 pub some-break : {cs ns : List ℕ} {i g d n next : ℕ} → RunAt cs ns i g d n next → next ≢ i + 1 → 1 ≤ g
 some-break {g = zero} a e = absurd (e (omega (arith, a .on)))
 some-break {g = suc g} a e = omega arith

@@ -18,11 +18,11 @@ abbrev pub breakItem : ℕ → ℕ → Item
 breakItem zero n = gap n
 breakItem (suc k) n = signOf 32 n
 
--- the reduced list for the join limit k, as tokens ..
+-- the reduced list for the join limit k, as tokens
 abbrev pub shown : ℕ → List Token → List Token
 shown k ts = dropOnes (absorb k (join k ts))
 
--- .. and as items
+-- the reduced list for the join limit k, as items
 abbrev pub snAt : ℕ → List Token → List Item
 snAt k ts = map (item (breakItem k)) (shown k ts)
 

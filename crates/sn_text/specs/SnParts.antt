@@ -36,7 +36,7 @@ snOf k ts = spaced (snAt k ts)
 abbrev pub snPart : ℕ → Token → List ℕ → List ℕ → List Token → List ℕ
 snPart k t cs ns more = snOf k (t ∷ (paired cs ns ++ more))
 
--- .. and of what follows alone
+-- the SN text of an open run t, and of what follows
 abbrev pub snOn : ℕ → Token → List Token → List ℕ
 snOn k t more = snOf k (t ∷ more)
 
@@ -58,7 +58,7 @@ abbrev pub SnWritten : ℕ → Run → List ℕ → List ℕ → List ℕ → Li
 SnWritten k t cs ns old out from buf new r =
     PartWritten (snPart k (runToken t) cs ns) (snOn k (runToken (r .run))) old out from buf new (r .to) × OpenRun (runToken t) cs (runToken (r .run))
 
--- .. or measured
+-- a part is measured, but for the run that is open behind it
 abbrev pub SnMeasured : ℕ → Run → List ℕ → List ℕ → Tally → Type 0
 SnMeasured k t cs ns r =
     PartMeasured (snPart k (runToken t) cs ns) (snOn k (runToken (r .run))) (47 * length cs) (r .length) × OpenRun (runToken t) cs (runToken (r .run))

@@ -62,7 +62,7 @@ fn detailed_turn(
     }
 }
 
-// .. in the others the next run joins the open one, or that is written with the break behind it.
+// The next run behind a break, in partial and simplified: it joins the open one, or that is written with the break behind it.
 fn joined_turn(
     buf: &mut [u8],
     k: usize,

@@ -65,7 +65,7 @@ module _ {buf new : List ℕ} {k : ℕ} (ys : List ℕ) {full : ℕ} (g : Grown 
         few = f .few;
       }
 
-  -- .. which is not nearly full
+  -- the buffer is not nearly full
   pub grown-only : {out : List ℕ} {place : ℕ} → full ≤ 1984 → Added buf out (goesOn place k) ys new out (goesOn place full)
   grown-only h = grown-added (added-none h)
 

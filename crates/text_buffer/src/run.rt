@@ -43,7 +43,7 @@ pub struct Done {
     pub to: Left,
 }
 
-// .. and how many bytes stand before it.
+// The run that is open, and how many bytes stand before it.
 pub struct Tally {
     pub run: Run,
     pub length: usize,
@@ -68,7 +68,7 @@ pub fn add_ended(buf: &mut [u8], k: usize, run: Run, words: &[u32; 192]) -> usiz
     add_word(buf, b, end_word(words, run.class, run.starred))
 }
 
-// .. without the space.
+// A run alone, in the buffer.
 pub fn add_run(buf: &mut [u8], k: usize, run: Run, words: &[u32; 192]) -> usize
     requires { ⌜ (k + 26 ≤ length (now buf)) × Words (now words) × (run .class ≤ 4) ⌝ }
     ensures { λ r. ⌜ Grown (now (buf .entry)) (now (buf .exit)) k (runText run) r ⌝ }
