@@ -14,11 +14,11 @@ use Rattle.measures.proofs.scan.runs_into.Tie as tie
 
 -- the invariant speaks of what the slices hold where the loop begins, and not where the function does: so it says that what is so there stays so
 abbrev Inv-loop : tie.InvT-loop
-Inv-loop m cs₀ ns₀ table most c p₀ i₀ cs ns p i =
+Inv-loop m cs₀ ns₀ most c p₀ i₀ cs ns p i =
     (old new : List ℕ) → ScanInvariant m old new cs₀ ns₀ most (p₀ .class) (p₀ .length) (p₀ .place) i₀ → ScanInvariant m old new cs ns most (p .class) (p .length) (p .place) i
 
 abbrev μ-loop : tie.MeasureT-loop
-μ-loop m cs₀ ns₀ table most c p₀ i₀ cs ns p i = length m - i
+μ-loop m cs₀ ns₀ most c p₀ i₀ cs ns p i = length m - i
 
 -- the loop's head, over what the function's entry had in the slices
 invariant : (c : tie.At-loop Inv-loop μ-loop) →
@@ -46,12 +46,11 @@ ready : (c : tie.After-run-on Inv-loop μ-loop) (count : ℕ) →
     let n = l .p .length + (c .run-on .result - l .i) in
     c .run-on .result + count ≤ length (s .m .now)
     → count ≤ 16
-    → Steps (s .m .now) (c .run-on .result) count (l .cs) (set (l .ns) (l .p .place) n) (s .table .now) (record { class = l .p .class; length = n; place = l .p .place })
+    → Steps (s .m .now) (c .run-on .result) count (l .cs) (set (l .ns) (l .p .place) n) (record { class = l .p .class; length = n; place = l .p .place })
 ready c count h b =
     let s = c .before .before .before .before .before .before .before .before .before .before in
     record {
       few = s .pre .few;
-      right = s .pre .right;
       within = h;
       most = s .args .most;
       low = omega (arith, c .before .if2 .left);

@@ -14,10 +14,10 @@ use Rattle.measures.proofs.scan.steps_into.Statement.{statement}
 use Rattle.measures.proofs.scan.steps_into.Tie as tie
 
 abbrev Inv-loop : tie.InvT-loop
-Inv-loop m from count cs₀ ns₀ table c₀ n₀ k₀ t₀ cs ns c n k t = Onward m from t cs₀ cs ns₀ ns c₀ n₀ k₀ c n k × (t ≤ count) × (k ≤ k₀ + t)
+Inv-loop m from count cs₀ ns₀ c₀ n₀ k₀ t₀ cs ns c n k t = Onward m from t cs₀ cs ns₀ ns c₀ n₀ k₀ c n k × (t ≤ count) × (k ≤ k₀ + t)
 
 abbrev μ-loop : tie.MeasureT-loop
-μ-loop m from count cs₀ ns₀ table c₀ n₀ k₀ t₀ cs ns c n k t = count - t
+μ-loop m from count cs₀ ns₀ c₀ n₀ k₀ t₀ cs ns c n k t = count - t
 
 -- the loop's head
 invariant : (c : tie.At-loop Inv-loop μ-loop) →
