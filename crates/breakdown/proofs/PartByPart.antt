@@ -13,9 +13,10 @@ use lib.Seq.{drop-drop, take-all, take-length, length-take-le, getD-take}
 use borrow.Author.Tests.{eqb-true}
 use Rattle.number.proofs.Split.{split}
 use Rattle.rules.specs.Chart.{classOf, classes, Token, token, class, runsFrom, runs}
-use Rattle.rules.specs.Calls.{stepAt}
+use Rattle.rules.specs.Calls.{stepAt, admitted}
 use Rattle.rules.specs.declared.ViewToken.{ViewToken}
 use Rattle.rules.specs.Slices.{paired}
+use Rattle.rules.proofs.Domain.{all-admitted}
 use Rattle.measures.specs.Scan.{RoomForTokens, FirstTokens}
 use Rattle.text_buffer.specs.MayFollow.{MayFollow}
 use Rattle.standard_text.specs.Standard.{glue, standardFrom, standardPart}
@@ -112,9 +113,9 @@ no-measures f [] h = refl
 no-measures f (d ∷ m) h = absurd (omega arith)
 
 -- the first token
-module _ {m : List ℕ} (a : ActiveMeasures m) (h : 0 < length m) (t : ViewToken) (e : t ≡ stepAt 0 m) where
+module _ {m : List ℕ} (a : ActiveMeasures m) (h : 0 < length m) (t : ViewToken) (e : t ≡ stepAt 0 (admitted m)) where
   step : Stepped m t
-  step = rw e (stepped m h)
+  step = rw (e, all-admitted m (a .few)) (stepped m h)
 
   first-behind : MayFollow 0 (token (t .class) (t .length) false ∷ runs (classes (drop (t .length) m)))
   first-behind = rw (step .rest) at (a .alternates)
