@@ -44,7 +44,7 @@ pub record ScanInvariant (m cs₀ ns₀ cs ns : List ℕ) (most c n k i : ℕ) :
   pub roomC : RoomForRuns m most cs₀
   pub roomN : RoomForRuns m most ns₀
 
--- .. and so it is q measures on, where there is room for as many tokens
+-- the invariant at i gives it q measures on, where there is room for as many tokens
 abbrev pub Onward : List ℕ → ℕ → ℕ → List ℕ → List ℕ → List ℕ → List ℕ → ℕ → ℕ → ℕ → ℕ → ℕ → ℕ → Type 0
 Onward m i q cs₀ cs ns₀ ns c₀ n₀ k₀ c n k =
     (most : ℕ) (old new : List ℕ) → k₀ + q < most + 17 → ScanInvariant m old new cs₀ ns₀ most c₀ n₀ k₀ i → ScanInvariant m old new cs ns most c n k (i + q)

@@ -47,7 +47,7 @@ struct Bounds {
     more: u32,
 }
 
-// There is no other class: the last arm makes a table of the five, where a branch on class 4 would often be foreseen wrong.
+// There is no other class: the last arm makes a table of the five, where a branch on class 4 would often be predicted wrong.
 fn bounds_of(class: u8) -> Bounds
     requires { ⌜ class ≤ 4 ⌝ }
     ensures { λ r. ⌜ Bounded class r ⌝ }
@@ -65,7 +65,7 @@ fn bounds_of(class: u8) -> Bounds
     }
 }
 
-// On from `i` over measures of `class`, eight at a time. In a long chart the processor cannot foresee where a run ends, and a branch that goes wrong
+// On from `i` over measures of `class`, eight at a time. In a long chart the processor cannot predict where a run ends, and a branch that goes wrong
 // costs more than the steps that it saves: there only a run that has 64 measures already is skipped.
 fn run_on(m: &[u32], i: usize, class: u8, so_far: u32) -> usize
     requires { ⌜ (i ≤ length (now m)) × (class ≤ 4) ⌝ }
