@@ -59,6 +59,7 @@ pub record Steps (m : List ℕ) (from count : ℕ) (cs ns : List ℕ) (p : Pendi
   pub new : List ℕ
   pub invariant : ScanInvariant m old new cs ns most (p .class) (p .length) (p .place) from
 
+-- the pending run r of a scan that was in p, `count` measures on from `from`
 abbrev pub StepsTaken : List ℕ → ℕ → ℕ → List ℕ → List ℕ → List ℕ → List ℕ → Pending → Pending → Type 0
 StepsTaken m from count cs₀ cs ns₀ ns p r = Onward m from count cs₀ cs ns₀ ns (p .class) (p .length) (p .place) (r .class) (r .length) (r .place)
 
