@@ -13,9 +13,10 @@ use lib.Seq.{drop-drop, take-all, take-length, length-take-le, getD-take}
 use borrow.Author.Tests.{eqb-true}
 use Rattle.number.proofs.Split.{split}
 use Rattle.rules.specs.Chart.{classOf, classes, Token, token, class, runsFrom, runs}
-use Rattle.rules.specs.Calls.{stepAt}
+use Rattle.rules.specs.Calls.{stepAt, admitted}
 use Rattle.rules.specs.declared.ViewToken.{ViewToken}
 use Rattle.rules.specs.Slices.{paired}
+use Rattle.rules.proofs.Domain.{all-admitted}
 use Rattle.measures.specs.Scan.{RoomForTokens, FirstTokens}
 use Rattle.text_buffer.specs.MayFollow.{MayFollow}
 use Rattle.standard_text.specs.Standard.{glue, standardFrom, standardPart}
@@ -64,7 +65,8 @@ abbrev pieceRun : Piece → Run
 pieceRun p = record { class = 1; length = p .length; starred = p .starred }
 
 pub piece-part : (f : Form) (r : Run) (cs ns : List ℕ) {old out : List ℕ} {from : Left} {buf new : List ℕ} {to : Left} → f .sn ≡ false → (p : Piece)
-    → PartWritten (standardPart (f .signs) (f .limit) (r .length) (r .starred) cs ns) (standardFrom (f .signs) (f .limit) (p .length) (p .starred)) old out from buf new to × (p .length ≤ r .length + 4294967296 * length cs)
+    → PartWritten (standardPart (f .signs) (f .limit) (r .length) (r .starred) cs ns) (standardFrom (f .signs) (f .limit) (p .length) (p .starred))
+    old out from buf new to × (p .length ≤ r .length + 4294967296 * length cs)
     → PartWritten (partText f r cs ns) (openText f (pieceRun p)) old out from buf new to × OpenNext f r (length cs) (pieceRun p)
 piece-part f r cs ns e p w = (
   record { done = w .0 .done; whole = λ more. rw e (w .0 .whole more); wrote = w .0 .wrote },
@@ -112,9 +114,9 @@ no-measures f [] h = refl
 no-measures f (d ∷ m) h = absurd (omega arith)
 
 -- the first token
-module _ {m : List ℕ} (a : ActiveMeasures m) (h : 0 < length m) (t : ViewToken) (e : t ≡ stepAt 0 m) where
+module _ {m : List ℕ} (a : ActiveMeasures m) (h : 0 < length m) (t : ViewToken) (e : t ≡ stepAt 0 (admitted m)) where
   step : Stepped m t
-  step = rw e (stepped m h)
+  step = rw (e, all-admitted m (a .few)) (stepped m h)
 
   first-behind : MayFollow 0 (token (t .class) (t .length) false ∷ runs (classes (drop (t .length) m)))
   first-behind = rw (step .rest) at (a .alternates)
@@ -180,7 +182,10 @@ module _ {m : List ℕ} {f : Form} {r : Run} {i : ℕ} (a : Along m f r i) where
 
       last : lastClass (r .class) (paired (take (t .tokens) cs) (take (t .tokens) ns)) ≢ 0
       last =
-          rw (last-paired (r .class) (take (t .tokens) cs) (take (t .tokens) ns) (t .tokens - 1) (longC ∙ sym longN) (longC ∙ omega (arith, g .some)), getD-take (t .tokens) cs (t .tokens - 1) 0 (omega (arith, g .some)))
+          rw (
+            last-paired (r .class) (take (t .tokens) cs) (take (t .tokens) ns) (t .tokens - 1) (longC ∙ sym longN) (longC ∙ omega (arith, g .some)),
+            getD-take (t .tokens) cs (t .tokens - 1) 0 (omega (arith, g .some)),
+          )
           (g .run)
 
       behind : MayFollow (r .class) (paired (take (t .tokens) cs) (take (t .tokens) ns) ++ more)
@@ -199,13 +204,15 @@ module _ {m : List ℕ} {f : Form} {r : Run} {i : ℕ} (a : Along m f r i) where
       on {u} o =
           record {
             run = o .run;
-            behind = behind-any _ (u .class) more (o .run .run) (o .run .low) (behind-back (r .class) (paired (take (t .tokens) cs) (take (t .tokens) ns)) more behind);
+            behind =
+                behind-any _ (u .class) more (o .run .run) (o .run .low) (behind-back (r .class) (paired (take (t .tokens) cs) (take (t .tokens) ns)) more behind);
             small = omega (arith, o .small, a .small, longC, g .fits, g .on);
             within = next-within;
           }
 
     -- the text from place i on is that of this part, and of what follows
-    pub on-text : (ds : List ℕ) (u : Run) → ((us : List Token) → openText f r (paired (take (t .tokens) cs) (take (t .tokens) ns) ++ us) ≡ ds ++ openText f u us)
+    pub on-text : (ds : List ℕ) (u : Run)
+        → ((us : List Token) → openText f r (paired (take (t .tokens) cs) (take (t .tokens) ns) ++ us) ≡ ds ++ openText f u us)
         → openText f r (runs (classes (drop i m))) ≡ ds ++ openText f u more
     on-text ds u w = ap (openText f r) rest ∙ w more
 
@@ -272,5 +279,6 @@ module _ {cs ns : List ℕ} (t : Tokens cs ns) where
       tokens-text = ap (textOf f) first-here ∙ g .text (paired backC backN) ∙ ap (openText f r) (sym (append-nil (paired backC backN)))
 
       -- all but the last run or piece, and then that
-      pub tokens-all : (ds : List ℕ) {u : Run} → Open f u → ((us : List Token) → partText f r backC backN us ≡ ds ++ openText f u us) → textOf f (paired cs ns) ≡ ds ++ runText u
+      pub tokens-all : (ds : List ℕ) {u : Run} → Open f u → ((us : List Token) → partText f r backC backN us ≡ ds ++ openText f u us)
+          → textOf f (paired cs ns) ≡ ds ++ runText u
       tokens-all ds {u} o w = tokens-text ∙ w [] ∙ ap (λ (l : List ℕ). ds ++ l) (last-text f u o)

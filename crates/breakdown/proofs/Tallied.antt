@@ -8,7 +8,7 @@ use native.Mathlib.Omega.{arith}
 use lib.ListN.{length, take, drop}
 use lib.Seq.{length-take-le}
 use Rattle.rules.specs.Chart.{classes, runs}
-use Rattle.rules.specs.Calls.{stepAt}
+use Rattle.rules.specs.Calls.{stepAt, admitted}
 use Rattle.rules.specs.declared.ViewToken.{ViewToken}
 use Rattle.measures.specs.Scan.{FirstTokens}
 use Rattle.measures.specs.declared.scan.Taken.{Taken}
@@ -24,8 +24,8 @@ pub record Tallied (m : List ℕ) (i : ℕ) (f : Form) (t : Tally) : Type 0 wher
   pub sum : t .length + length (openText f (t .run) (runs (classes (drop i m)))) ≡ length (textOf f (runs (classes m)))
   pub short : t .length ≤ 12032 * i
 
-pub tally-starts : {m : List ℕ} → ActiveMeasures m → 0 < length m → (v : ViewToken) → v ≡ stepAt 0 m → (f : Form) {t : Tally} → FirstTally f (v .class) (v .length) t
-    → Tallied m (v .length) f t
+pub tally-starts : {m : List ℕ} → ActiveMeasures m → 0 < length m → (v : ViewToken) → v ≡ stepAt 0 (admitted m)
+    → (f : Form) {t : Tally} → FirstTally f (v .class) (v .length) t → Tallied m (v .length) f t
 tally-starts a h v e f {t} g =
     record {
       along = first-along a h v e f (g .first);
@@ -33,7 +33,8 @@ tally-starts a h v e f {t} g =
       short = omega (arith, g .none);
     }
 
-module _ {m : List ℕ} {i : ℕ} {cs₀ cs ns₀ ns : List ℕ} {v : Taken} (few : length m ≤ 1048576) (g : FirstTokens (from m i) cs₀ cs ns₀ ns v) (e : length ns ≡ length cs) (l : length cs ≤ 256) (f : Form) {t : Tally} (d : Tallied m i f t) where
+module _ {m : List ℕ} {i : ℕ} {cs₀ cs ns₀ ns : List ℕ} {v : Taken} (few : length m ≤ 1048576)
+    (g : FirstTokens (from m i) cs₀ cs ns₀ ns v) (e : length ns ≡ length cs) (l : length cs ≤ 256) (f : Form) {t : Tally} (d : Tallied m i f t) where
   pub tally-ready : TallyReady f t (take (v .tokens) cs) (take (v .tokens) ns)
   tally-ready =
       record {

@@ -59,18 +59,25 @@ module _ {cs ns : List ℕ} {a b c d e f i : ℕ} (g : Adding cs ns a b c d e f 
   pub low : (a ≤ 1048576) × (b ≤ 1048576) × (c ≤ 1048576) × (d ≤ 1048576) × (e ≤ 1048576) × (f ≤ 1048576)
   low =
       let ts = paired cs ns in
-      let h = g .pairs .few in
-      (omega (arith, held-most 1 ts), omega (arith, held-most 2 ts), omega (arith, held-most 3 ts), omega (arith, held-most 4 ts), omega (arith, held-most 0 ts), omega (arith, wide-most ts))
+      let h = g .pairs .few in (
+        omega (arith, held-most 1 ts),
+        omega (arith, held-most 2 ts),
+        omega (arith, held-most 3 ts),
+        omega (arith, held-most 4 ts),
+        omega (arith, held-most 0 ts),
+        omega (arith, wide-most ts),
+      )
 
   module _ (h : i < length cs) where
-    -- .. and so is a length
+    -- a length is small
     pub small : getD ns i 0 ≤ 1048576
     small = omega (arith, g .pairs .few, rw (slices-next cs ns i (g .pairs .long) h) at (total-drop i (paired cs ns)))
 
     pub added :
         let x = getD cs i 0 in
         let n = getD ns i 0 in
-        Adding cs ns (cond (eqb 1 x) (a + n) a) (cond (eqb 2 x) (b + n) b) (cond (eqb 3 x) (c + n) c) (cond (eqb 4 x) (d + n) d) (cond (eqb 0 x) (e + n) e) (cond (eqb 0 x) (f + wideOf n) f) (i + 1)
+        Adding cs ns (cond (eqb 1 x) (a + n) a) (cond (eqb 2 x) (b + n) b) (cond (eqb 3 x) (c + n) c) (cond (eqb 4 x) (d + n) d)
+        (cond (eqb 0 x) (e + n) e) (cond (eqb 0 x) (f + wideOf n) f) (i + 1)
     added =
         let x = getD cs i 0 in
         let n = getD ns i 0 in

@@ -8,7 +8,8 @@ use native.Mathlib.Omega.{arith}
 use lib.Dec.{eqb, ltb}
 use lib.ListN.{length, length-drop, length-map}
 use borrow.Author.Tests.{eqb-true, ne-eqb}
-use Rattle.rules.specs.Chart.{Token, token, class, len, leadIn, fromFirst, keep, toLast, active, runsFrom, runs, count, streams, wideGaps, counts, noCounts, classes, tokens}
+use Rattle.rules.specs.Chart.{classes, Token, token, class, len, leadIn, fromFirst, keep, toLast, active, runsFrom, runs, tokens}
+use Rattle.rules.specs.Chart.{count, streams, wideGaps, counts, noCounts}
 use Rattle.number.proofs.Split.{split}
 use Rattle.rules.specs.Slices.{paired, total}
 use Rattle.rules.proofs.Cost.{total-runs}
@@ -33,7 +34,8 @@ held-runs c (d ∷ cs) = rw (held-from c d 1 cs) (split (eqb c d) (λ q. rw q (o
 
 paired-from : (c n : ℕ) (cs : List ℕ) → paired (map class (runsFrom c n cs)) (map len (runsFrom c n cs)) ≡ runsFrom c n cs
 paired-from c n [] = refl
-paired-from c n (d ∷ cs) = split (eqb c d) (λ e. rw e (paired-from c (suc n) cs)) (λ e. rw e (ap {B = List Token} (λ ts. token c n false ∷ ts) (paired-from d 1 cs)))
+paired-from c n (d ∷ cs) =
+    split (eqb c d) (λ e. rw e (paired-from c (suc n) cs)) (λ e. rw e (ap {B = List Token} (λ ts. token c n false ∷ ts) (paired-from d 1 cs)))
 
 pub paired-runs : (cs : List ℕ) → paired (map class (runs cs)) (map len (runs cs)) ≡ runs cs
 paired-runs [] = refl
@@ -95,7 +97,8 @@ left zero n (x ∷ ts) l = upTo 0 n (x ∷ ts) l
 left (suc c) n ts l = upTo (suc c) n ts l
 
 module _ (cs : List ℕ) where
-  one-more : (c n d : ℕ) (ts : List ℕ) → ((c n : ℕ) → wideGaps (runsFrom c n cs) ≡ left c n ts (length cs)) → wideGaps (runsFrom c n (d ∷ cs)) ≡ left c n (keep d ts) (suc (length cs))
+  one-more : (c n d : ℕ) (ts : List ℕ) → ((c n : ℕ) → wideGaps (runsFrom c n cs) ≡ left c n ts (length cs))
+      → wideGaps (runsFrom c n (d ∷ cs)) ≡ left c n (keep d ts) (suc (length cs))
   one-more zero n zero [] ih = let e : suc n + length cs ≡ n + suc (length cs) = omega arith in rw (← e) (ih 0 (suc n))
   one-more zero n zero (y ∷ ts) ih =
       let e : length cs - length (y ∷ ts) ≡ suc (length cs) - suc (length (y ∷ ts)) = omega arith in

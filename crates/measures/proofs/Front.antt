@@ -26,7 +26,8 @@ some-run c n [] = omega arith
 some-run c n (d ∷ cs) = split (eqb c d) (λ e. rw e (some-run c (suc n) cs)) (λ e. rw e (omega arith))
 
 -- the runs behind the first ones are those of the measures behind these
-after-from : (c n : ℕ) (cs : List ℕ) (t : Token) (ts us : List Token) → runsFrom c n cs ≡ t ∷ (ts ++ us) → (k : ℕ) × (total (t ∷ ts) ≡ n + k) × (runs (drop k cs) ≡ us)
+after-from : (c n : ℕ) (cs : List ℕ) (t : Token) (ts us : List Token) → runsFrom c n cs ≡ t ∷ (ts ++ us)
+    → (k : ℕ) × (total (t ∷ ts) ≡ n + k) × (runs (drop k cs) ≡ us)
 after-from c n [] (token x y s) [] us e = let q : n ≡ y = cc in (0, omega arith, cc)
 after-from c n [] t (u ∷ ts) us e = absurd (omega (arith, ap length e))
 after-from c n (d ∷ cs) (token x y s) [] us e =
@@ -82,7 +83,8 @@ pub paired-front : (ts us : List Token) → paired (map class (ts ++ us)) (map l
 paired-front [] us e = refl
 paired-front (token c n s ∷ ts) us e = let r = paired-front ts us (cc) in let q : false ≡ s = cc in cc
 
-paired-suc : (cs ns : List ℕ) (k : ℕ) → k < length cs → k < length ns → paired (take (suc k) cs) (take (suc k) ns) ≡ paired (take k cs) (take k ns) ++ (token (getD cs k 0) (getD ns k 0) false ∷ [])
+paired-suc : (cs ns : List ℕ) (k : ℕ) → k < length cs → k < length ns
+    → paired (take (suc k) cs) (take (suc k) ns) ≡ paired (take k cs) (take k ns) ++ (token (getD cs k 0) (getD ns k 0) false ∷ [])
 paired-suc [] ns k h g = absurd (not-suc-le-zero h)
 paired-suc (c ∷ cs) [] k h g = absurd (not-suc-le-zero g)
 paired-suc (c ∷ cs) (n ∷ ns) zero h g = refl
@@ -93,8 +95,9 @@ module _ (m cs ns : List ℕ) where
   abbrev Front : ℕ → ℕ → Type 0
   Front k next = runs (classes m) ≡ paired (take k cs) (take k ns) ++ runs (classes (drop next m))
 
-  -- .. of which the last is a token of its own
-  last-apart : (k next : ℕ) → Front (suc k) next → k < length cs → k < length ns → runs (classes m) ≡ paired (take k cs) (take k ns) ++ token (getD cs k 0) (getD ns k 0) false ∷ runs (classes (drop next m))
+  -- the last of the first tokens by itself
+  last-apart : (k next : ℕ) → Front (suc k) next → k < length cs → k < length ns
+      → runs (classes m) ≡ paired (take k cs) (take k ns) ++ token (getD cs k 0) (getD ns k 0) false ∷ runs (classes (drop next m))
   last-apart k next e h g = rw (paired-suc cs ns k h g, append-snoc) at e
 
   summed : (k next : ℕ) → Front k next → next ≤ length m → total (paired (take k cs) (take k ns)) ≡ next
@@ -112,7 +115,8 @@ module _ (m cs ns : List ℕ) where
   onward (suc k) (suc next) e p h g = omega arith
 
   -- the last one given back
-  given : (k next : ℕ) → Front k next → 1 ≤ k → k ≤ length cs → k ≤ length ns → next ≤ length m → (getD ns (k - 1) 0 ≤ next) × Front (k - 1) (next - getD ns (k - 1) 0)
+  given : (k next : ℕ) → Front k next → 1 ≤ k → k ≤ length cs → k ≤ length ns → next ≤ length m
+      → (getD ns (k - 1) 0 ≤ next) × Front (k - 1) (next - getD ns (k - 1) 0)
   given zero next e p h g w = absurd (not-suc-le-zero p)
   given (suc k) next e p h g w =
       let a = last-apart k next e h g in
@@ -139,7 +143,8 @@ module _ (m cs ns : List ℕ) where
       (last-class (classes m) (paired (take k cs) (take k ns)) (token (getD cs k 0) (getD ns k 0) false) (rw drop-length at (last-apart k (length m) e h g)))
 
 -- `tokens_into`: the first runs, and where the last of them is a break it is given back
-module _ {m cs₀ cs ns₀ ns : List ℕ} {r : Taken} (a : RoomForTokens m cs₀ ns₀) (w : FirstRuns m (length cs₀ - 17) cs₀ cs ns₀ ns r) (longC : length cs ≡ length cs₀) (longN : length ns ≡ length ns₀) where
+module _ {m cs₀ cs ns₀ ns : List ℕ} {r : Taken} (a : RoomForTokens m cs₀ ns₀) (w : FirstRuns m (length cs₀ - 17) cs₀ cs ns₀ ns r)
+    (longC : length cs ≡ length cs₀) (longN : length ns ≡ length ns₀) where
   enough : r .tokens ≤ length ns
   enough = omega arith
 

@@ -3,7 +3,7 @@ pub mod Stretch
 pub mod Part
 pub mod Counted
 pub mod Tallied
-pub mod Table
+pub mod Classes
 pub mod Front
 pub mod ScanInvariant
 pub mod Adding

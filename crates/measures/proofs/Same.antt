@@ -77,7 +77,8 @@ module _ (a b : List ℕ) where
   pub unlike-length : (length a ≡ length b → ⊥) → SamePlaces (classes a) (classes b) → false ≡ true
   unlike-length h s = absurd (h (sym (length-map a classOf) ∙ s .long ∙ length-map b classOf))
 
-  pub unlike-place : (i : ℕ) → i < length a → not (Bool·beq (ltb (getD a i 0) 16) (ltb (getD b i 0) 16)) ≡ true → SamePlaces (classes a) (classes b) → false ≡ true
+  pub unlike-place : (i : ℕ) → i < length a → not (Bool·beq (ltb (getD a i 0) 16) (ltb (getD b i 0) 16)) ≡ true
+      → SamePlaces (classes a) (classes b) → false ≡ true
   unlike-place i h t s = other-bools _ _ t (stream-test _ _ (rw (class-of-place a i, class-of-place b i) at (s .places i (rw length-map h))))
 
 -- ---- the texts

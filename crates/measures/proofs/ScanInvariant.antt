@@ -39,7 +39,8 @@ pub next : (m : List ℕ) (i : ℕ) → i < length m → drop i (classes m) ≡ 
 next m i h = drop-cons (classes m) i 0 (rw length-map h) ∙ rw class-of-place
 
 -- q measures of the pending class
-longer : (m : List ℕ) (c q n i : ℕ) → i + q ≤ length m → ((j : ℕ) → i ≤ j → j < i + q → classOf (getD m j 0) ≡ c) → runsFrom c n (drop i (classes m)) ≡ runsFrom c (n + q) (drop (i + q) (classes m))
+longer : (m : List ℕ) (c q n i : ℕ) → i + q ≤ length m → ((j : ℕ) → i ≤ j → j < i + q → classOf (getD m j 0) ≡ c)
+    → runsFrom c n (drop i (classes m)) ≡ runsFrom c (n + q) (drop (i + q) (classes m))
 longer m c zero n i h same = simp add-zero
 longer m c (suc q) n i h same =
     rw (next m i (omega arith), run-longer c n (classOf (getD m i 0)) (drop (suc i) (classes m)) (sym (same i (omega arith) (omega arith))))
@@ -137,7 +138,7 @@ module _ {m cs₀ ns₀ cs ns : List ℕ} {most c n k i : ℕ} (g : ScanInvarian
     abbrev d : ℕ
     d = classOf (getD m i 0)
 
-    -- .. of the pending class
+    -- one of the pending class
     pub same : classOf (getD m i 0) ≡ c → ScanInvariant m cs₀ ns₀ (set cs k d) (set ns k (n + 1)) most d (n + 1) k (i + 1)
     same e =
         record {
@@ -155,7 +156,7 @@ module _ {m cs₀ ns₀ cs ns : List ℕ} {most c n k i : ℕ} (g : ScanInvarian
           roomN = g .roomN;
         }
 
-    -- .. of another, which ends the pending run
+    -- one of another class, which ends the pending run
     module _ (e : classOf (getD m i 0) ≢ c) (l : k + 1 < most + 17) where
       other-whole : (g .done ++ (token c n false ∷ [])) ++ runsFrom d 1 (drop (suc i) (classes m)) ≡ runs (classes m)
       other-whole = rw append-snoc (rw (next m i h, run-ended c n d (drop (suc i) (classes m)) (λ q. e (sym q))) at (g .whole))
@@ -166,7 +167,9 @@ module _ {m cs₀ ns₀ cs ns : List ℕ} {most c n k i : ℕ} (g : ScanInvarian
           (rw (← other-whole, length-append, length-append, ← (g .written)) (omega (arith, some-run d 1 (drop (suc i) (classes m)))))
           l
 
-      beyond : (f : Token → ℕ) (old new : List ℕ) (v : ℕ) → k + 1 < length old → new ≡ filled old (map f (g .done) ++ (f (token c n false) ∷ [])) → set new (k + 1) v ≡ filled old (map f (g .done ++ (token c n false ∷ [])) ++ (v ∷ []))
+      beyond : (f : Token → ℕ) (old new : List ℕ) (v : ℕ) → k + 1 < length old
+          → new ≡ filled old (map f (g .done) ++ (f (token c n false) ∷ []))
+          → set new (k + 1) v ≡ filled old (map f (g .done ++ (token c n false ∷ [])) ++ (v ∷ []))
       beyond f old new v r e =
           let xs = map f (g .done) ++ (f (token c n false) ∷ []) in
           let l : length xs ≡ k + 1 = simp (length-append, length-map) (omega arith) in
@@ -197,7 +200,8 @@ module _ (m cs ns : List ℕ) (most : ℕ) (h : 0 < length m) where
   pub room : (s : List ℕ) → RoomForRuns m most s → 0 < length s
   room s r = place m most s r (rw (← first) (some-run (classOf (getD m 0 0)) 1 (drop 1 (classes m)))) (omega arith)
 
-  pub starts : RoomForRuns m most cs → RoomForRuns m most ns → ScanInvariant m cs ns (set cs 0 (classOf (getD m 0 0))) (set ns 0 1) most (classOf (getD m 0 0)) 1 0 1
+  pub starts : RoomForRuns m most cs → RoomForRuns m most ns
+      → ScanInvariant m cs ns (set cs 0 (classOf (getD m 0 0))) (set ns 0 1) most (classOf (getD m 0 0)) 1 0 1
   starts roomC roomN =
       record {
         done = [];

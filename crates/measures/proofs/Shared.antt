@@ -1,9 +1,8 @@
--- For share: the stream measures are those of class 1 to 4, and the share is at most 10,000.
+-- For share: the stream measures are those of class 1 to 4.
 -- Assumes nothing.
 use Prim.Native.Nat.{ℕ, zero, suc, _+_, _*_, _/_, _≤_}
 use mathlib.Core.Path.{_≡_, refl}
 use mathlib.Core.List.{List, [], _∷_}
-use native.Mathlib.Nat.{div-le-of-le-mul}
 use native.Mathlib.Omega.{arith}
 use lib.Dec.{eqb, ltb}
 use lib.ListN.{length, length-map}
@@ -37,9 +36,6 @@ added k = k .«run16_streams» + k .«run20_streams» + k .«run24_streams» + k
 
 abbrev pub shareOf : StreamCounts → ℕ
 shareOf k = (10000 * added k) / (added k + k .«total_breaks»)
-
-pub share-low : (k : StreamCounts) → shareOf k ≤ 10000
-share-low k = div-le-of-le-mul (added k + k .«total_breaks») (omega arith)
 
 -- of a chart of the domain
 pub record Known (m : List ℕ) (k : StreamCounts) : Type 0 where

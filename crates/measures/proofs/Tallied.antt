@@ -55,7 +55,8 @@ reaches (d ∷ m) =
     let r = reaches m in
     split (ltb d 16)
     (λ e. let h = ltb-true d 16 e in
-    rw (class-0 d h, e, lt-ltb d 20 (omega arith), lt-ltb d 24 (omega arith), lt-ltb d 32 (omega arith)) (omega arith, omega arith, omega arith, omega arith, omega arith))
+    rw (class-0 d h, e, lt-ltb d 20 (omega arith), lt-ltb d 24 (omega arith), lt-ltb d 32 (omega arith))
+    (omega arith, omega arith, omega arith, omega arith, omega arith))
     (λ e. let g = ltb-false d 16 e in
     split (ltb d 20)
     (λ f. let h = ltb-true d 20 f in
@@ -142,7 +143,9 @@ more t x v all m e = split (ltb x t) (λ f. rw f (rw f at e)) (λ f. rw f (omega
 more-alone : (q p x v all : ℕ) (m : List ℕ) → v + singles q p (x ∷ m) ≡ all → alone q p x v (v + 1) + singles p x m ≡ all
 more-alone q p x v all m e =
     split (ltb x 16) (λ f. rw f (rw f at e))
-    (λ f. split (ltb p 16) (λ g. split (ltb q 16) (λ h. rw (f, g, h) (rw (f, g, h) at e)) (λ h. rw (f, g, h) (omega (arith, rw (f, g, h) at e)))) (λ g. rw (f, g) (rw (f, g) at e)))
+    (λ f. split (ltb p 16)
+    (λ g. split (ltb q 16) (λ h. rw (f, g, h) (rw (f, g, h) at e)) (λ h. rw (f, g, h) (omega (arith, rw (f, g, h) at e))))
+    (λ g. rw (f, g) (rw (f, g) at e)))
 
 pub record Telling (m : List ℕ) (a b c d e q p i : ℕ) : Type 0 where
   pub closed : Closed m
@@ -161,12 +164,18 @@ module _ {m : List ℕ} {a b c d e q p i : ℕ} (g : Telling m a b c d e q p i) 
   -- the sums are small
   pub low : (a ≤ 1048576) × (b ≤ 1048576) × (c ≤ 1048576) × (d ≤ 1048576) × (e ≤ 1048576)
   low =
-      let h = g .closed .few in
-      (omega (arith, reach-most 16 m), omega (arith, reach-most 20 m), omega (arith, reach-most 24 m), omega (arith, reach-most 32 m), omega (arith, singles-most 16 16 m))
+      let h = g .closed .few in (
+        omega (arith, reach-most 16 m),
+        omega (arith, reach-most 20 m),
+        omega (arith, reach-most 24 m),
+        omega (arith, reach-most 32 m),
+        omega (arith, singles-most 16 16 m),
+      )
 
   pub told : i < length m →
       let x = getD m i 0 in
-      Telling m (cond (ltb x 16) a (a + 1)) (cond (ltb x 20) b (b + 1)) (cond (ltb x 24) c (c + 1)) (cond (ltb x 32) d (d + 1)) (alone q p x e (e + 1)) p x (i + 1)
+      Telling m (cond (ltb x 16) a (a + 1)) (cond (ltb x 20) b (b + 1)) (cond (ltb x 24) c (c + 1)) (cond (ltb x 32) d (d + 1))
+      (alone q p x e (e + 1)) p x (i + 1)
   told h =
       let x = getD m i 0 in
       let n = drop-cons m i 0 h in

@@ -37,7 +37,8 @@ module _ {ts : List Token} {k : ℕ} {cs₀ cs₁ ns₀ ns₁ : List ℕ} (w : I
       }
 
 -- all runs are the first runs
-pub all-first : (m : List ℕ) (most : ℕ) {k : ℕ} {cs₀ cs₁ ns₀ ns₁ : List ℕ} → InSlices (runs (classes m)) k cs₀ cs₁ ns₀ ns₁ → FirstRuns m most cs₀ cs₁ ns₀ ns₁ (record { tokens = k; next = length m })
+pub all-first : (m : List ℕ) (most : ℕ) {k : ℕ} {cs₀ cs₁ ns₀ ns₁ : List ℕ} → InSlices (runs (classes m)) k cs₀ cs₁ ns₀ ns₁
+    → FirstRuns m most cs₀ cs₁ ns₀ ns₁ (record { tokens = k; next = length m })
 all-first m most w =
     record {
       rest = rw (drop-length, back w m refl, append-nil);

@@ -8,15 +8,11 @@ use mathlib.Core.List.{List, [], _∷_, _++_, map}
 use lib.ListN.{length, take, drop, getD}
 use Rattle.number.specs.Questions.{filled}
 use Rattle.rules.specs.Chart.{classOf, classes, Token, token, class, len, runsFrom, runs, tokens, counts}
-use Rattle.rules.specs.Slices.{paired, total, upFrom}
+use Rattle.rules.specs.Slices.{paired, total}
 use Rattle.measures.specs.declared.scan.Bounds.{Bounds}
 use Rattle.measures.specs.declared.scan.Pending.{Pending}
 use Rattle.measures.specs.declared.scan.ScanAnswer.{ScanAnswer}
 use Rattle.measures.specs.declared.scan.Taken.{Taken}
-
--- the class of each density up to 32
-abbrev pub classTable : List ℕ
-classTable = classes (upFrom 0 33)
 
 -- densities of lo to lo + more are of class c
 pub record Bounded (c : ℕ) (r : Bounds) : Type 0 where
@@ -48,15 +44,14 @@ pub record ScanInvariant (m cs₀ ns₀ cs ns : List ℕ) (most c n k i : ℕ) :
   pub roomC : RoomForRuns m most cs₀
   pub roomN : RoomForRuns m most ns₀
 
--- .. and so it is q measures on, where there is room for as many tokens
+-- the invariant at i gives it q measures on, where there is room for as many tokens
 abbrev pub Onward : List ℕ → ℕ → ℕ → List ℕ → List ℕ → List ℕ → List ℕ → ℕ → ℕ → ℕ → ℕ → ℕ → ℕ → Type 0
 Onward m i q cs₀ cs ns₀ ns c₀ n₀ k₀ c n k =
     (most : ℕ) (old new : List ℕ) → k₀ + q < most + 17 → ScanInvariant m old new cs₀ ns₀ most c₀ n₀ k₀ i → ScanInvariant m old new cs ns most c n k (i + q)
 
 -- `count` measures from `from` on, before a pending run, and room for as many tokens
-pub record Steps (m : List ℕ) (from count : ℕ) (cs ns table : List ℕ) (p : Pending) : Type 0 where
+pub record Steps (m : List ℕ) (from count : ℕ) (cs ns : List ℕ) (p : Pending) : Type 0 where
   pub few : length m ≤ 1048576
-  pub right : table ≡ classTable
   pub within : from + count ≤ length m
   pub most : ℕ
   pub low : p .place + count < most + 17
@@ -64,15 +59,15 @@ pub record Steps (m : List ℕ) (from count : ℕ) (cs ns table : List ℕ) (p :
   pub new : List ℕ
   pub invariant : ScanInvariant m old new cs ns most (p .class) (p .length) (p .place) from
 
+-- the pending run r of a scan that was in p, `count` measures on from `from`
 abbrev pub StepsTaken : List ℕ → ℕ → ℕ → List ℕ → List ℕ → List ℕ → List ℕ → Pending → Pending → Type 0
 StepsTaken m from count cs₀ cs ns₀ ns p r = Onward m from count cs₀ cs ns₀ ns (p .class) (p .length) (p .place) (r .class) (r .length) (r .place)
 
--- measures of the domain, room in both slices, and the table of classes
-pub record ScanAsked (m cs ns table : List ℕ) (most : ℕ) : Type 0 where
+-- measures of the domain, and room in both slices
+pub record ScanAsked (m cs ns : List ℕ) (most : ℕ) : Type 0 where
   pub few : length m ≤ 1048576
   pub roomC : RoomForRuns m most cs
   pub roomN : RoomForRuns m most ns
-  pub right : table ≡ classTable
 
 -- r tokens in two slices, class numbers and lengths; later places as they were
 pub record InSlices (ts : List Token) (r : ℕ) (cs₀ cs₁ ns₀ ns₁ : List ℕ) : Type 0 where

@@ -15,6 +15,7 @@ abbrev pub held : ℕ → List Token → ℕ
 held c [] = 0
 held c (token d n s ∷ ts) = cond (eqb c d) (n + held c ts) (held c ts)
 
+-- measures of each class that some tokens hold, and those of their gaps of 2 or more
 abbrev pub sumsOf : List Token → Sums
 sumsOf ts =
     record { run16 = held 1 ts; run20 = held 2 ts; run24 = held 3 ts; run32 = held 4 ts; breaks = held 0 ts; wide = wideGaps ts }
@@ -23,6 +24,7 @@ sumsOf ts =
 abbrev pub wideOf : ℕ → ℕ
 wideOf n = cond (ltb n 2) 0 n
 
+-- r is that, and no more than the gap
 pub record Wide (n r : ℕ) : Type 0 where
   pub gap : r ≡ wideOf n
   pub low : r ≤ n

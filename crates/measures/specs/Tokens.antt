@@ -1,4 +1,4 @@
--- What the functions on tokens ask.
+-- What `run_end` asks.
 -- Assumes nothing.
 use Prim.Native.Nat.{ℕ, _≤_}
 use mathlib.Core.List.{List}

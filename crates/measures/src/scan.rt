@@ -14,7 +14,7 @@ ghost use Prim.Native.Nat.{_+_, _≤_, _<_, _^_};
 ghost use Rattle.rules.specs.Chart.{classOf, tokens};
 ghost use Rattle.measures.specs.Sums.{sumsOf};
 ghost use Rattle.rules.specs.Slices.{paired};
-ghost use Rattle.measures.specs.Scan.{classTable, Bounded, OfClass, Steps, StepsTaken, ScanAsked, FirstRuns, Paired, TokenRoom, Scanned, RoomForTokens, FirstTokens};
+ghost use Rattle.measures.specs.Scan.{Bounded, OfClass, Steps, StepsTaken, ScanAsked, FirstRuns, Paired, TokenRoom, Scanned, RoomForTokens, FirstTokens};
 
 // What the scan answers: the counts and the number of tokens.
 #[repr(C)]
@@ -29,53 +29,16 @@ pub struct Taken {
     pub next: usize,
 }
 
-// The class of each density up to 32, which stands for all above it.
-const CLASS: [u8; 33] = [
-    0,
-    0,
-    0,
-    0,
-    0,
-    0,
-    0,
-    0,
-    0,
-    0,
-    0,
-    0,
-    0,
-    0,
-    0,
-    0,
-    1,
-    1,
-    1,
-    1,
-    2,
-    2,
-    2,
-    2,
-    3,
-    3,
-    3,
-    3,
-    3,
-    3,
-    3,
-    3,
-    4,
-];
-
-// The class of `d`, from the table that the caller has at hand: named here, the table would be built anew at each call.
-fn class_at(table: &[u8; 33], d: u32) -> u8
-    requires { ⌜ now table ≡ classTable ⌝ }
+// The class of `d`, without a branch: the base-16 digits of one number, from the right, are the classes of the densities 0 to 3, 4 to 7
+// and so on up to 32, which stands for all above it.
+fn class_at(d: u32) -> u8
     ensures { λ r. ⌜ r ≡ classOf d ⌝ }
 {
     let mut x = d;
     if x > 32 {
         x = 32;
     }
-    table[x as usize]
+    ((0x4_3321_0000u64 >> (x / 4 * 4)) % 16) as u8
 }
 
 // A class's least density, and how many it has beyond that.
@@ -84,7 +47,7 @@ struct Bounds {
     more: u32,
 }
 
-// There is no other class: the last arm makes a table of the five, where a branch on class 4 would often be foreseen wrong.
+// There is no other class: the last arm makes a table of the five, where a branch on class 4 would often be predicted wrong.
 fn bounds_of(class: u8) -> Bounds
     requires { ⌜ class ≤ 4 ⌝ }
     ensures { λ r. ⌜ Bounded class r ⌝ }
@@ -102,7 +65,7 @@ fn bounds_of(class: u8) -> Bounds
     }
 }
 
-// On from `i` over measures of `class`, eight at a time. In a long chart the processor cannot foresee where a run ends, and a branch that goes wrong
+// On from `i` over measures of `class`, eight at a time. In a long chart the processor cannot predict where a run ends, and a branch that goes wrong
 // costs more than the steps that it saves: there only a run that has 64 measures already is skipped.
 fn run_on(m: &[u32], i: usize, class: u8, so_far: u32) -> usize
     requires { ⌜ (i ≤ length (now m)) × (class ≤ 4) ⌝ }
@@ -129,10 +92,9 @@ fn steps_into(
     count: usize,
     cs: &mut [u8],
     ns: &mut [u32],
-    table: &[u8; 33],
     p: Pending,
 ) -> Pending
-    requires { ⌜ Steps (now m) from count (now cs) (now ns) (now table) p ⌝ }
+    requires { ⌜ Steps (now m) from count (now cs) (now ns) p ⌝ }
     ensures { λ r. ⌜ StepsTaken (now (m .entry)) from count (now (cs .entry)) (now (cs .exit)) (now (ns .entry)) (now (ns .exit)) p r ⌝ }
 {
     let mut c = p.class;
@@ -140,7 +102,7 @@ fn steps_into(
     let mut k = p.place;
     let mut t: usize = 0;
     while t < count {
-        let d = class_at(table, m[from + t]);
+        let d = class_at(m[from + t]);
         n += 1;
         if d != c {
             k += 1;
@@ -160,14 +122,14 @@ fn steps_into(
 
 // The longest runs of one class in `m`, into two lent slices, until there are `most`: over a long run eight measures at a time, then a
 // block of 16 step by step. A block's length stands in the call, so that the compiler unrolls its loop.
-fn runs_into(m: &[u32], cs: &mut [u8], ns: &mut [u32], table: &[u8; 33], most: usize) -> Taken
-    requires { ⌜ ScanAsked (now m) (now cs) (now ns) (now table) most ⌝ }
+fn runs_into(m: &[u32], cs: &mut [u8], ns: &mut [u32], most: usize) -> Taken
+    requires { ⌜ ScanAsked (now m) (now cs) (now ns) most ⌝ }
     ensures { λ r. ⌜ FirstRuns (now (m .entry)) most (now (cs .entry)) (now (cs .exit)) (now (ns .entry)) (now (ns .exit)) r ⌝ }
 {
     if m.len() == 0 {
         return Taken { tokens: 0, next: 0 };
     }
-    let c = class_at(table, m[0]);
+    let c = class_at(m[0]);
     cs[0] = c;
     ns[0] = 1;
     let mut p = Pending {
@@ -186,10 +148,10 @@ fn runs_into(m: &[u32], cs: &mut [u8], ns: &mut [u32], table: &[u8; 33], most: u
         p.length += (j - i) as u32;
         ns[k] = p.length;
         if m.len() - j > 16 {
-            p = steps_into(m, j, 16, cs, ns, table, p);
+            p = steps_into(m, j, 16, cs, ns, p);
             i = j + 16;
         } else {
-            p = steps_into(m, j, m.len() - j, cs, ns, table, p);
+            p = steps_into(m, j, m.len() - j, cs, ns, p);
             i = m.len();
         }
     }
@@ -245,8 +207,7 @@ pub fn scan(m: &[u32], cs: &mut [u8], ns: &mut [u32]) -> ScanAnswer
 {
     let lead = lead_in(m);
     let part = active_behind(m, lead);
-    let table = CLASS;
-    let taken = runs_into(part, cs, ns, &table, part.len());
+    let taken = runs_into(part, cs, ns, part.len());
     let tokens = taken.tokens;
     let sums = add_up(&cs[..tokens], &ns[..tokens]);
     let counts = counted(m, lead, part, sums);
@@ -259,9 +220,8 @@ pub fn tokens_into(m: &[u32], cs: &mut [u8], ns: &mut [u32]) -> Taken
     requires { ⌜ RoomForTokens (now m) (now cs) (now ns) ⌝ }
     ensures { λ r. ⌜ FirstTokens (now (m .entry)) (now (cs .entry)) (now (cs .exit)) (now (ns .entry)) (now (ns .exit)) r ⌝ }
 {
-    let table = CLASS;
     let most = cs.len() - 17;
-    let all = runs_into(m, cs, ns, &table, most);
+    let all = runs_into(m, cs, ns, most);
     let last = all.tokens - 1;
     if cs[last] != 0 {
         return all;

@@ -8,6 +8,7 @@ use lib.ListN.{length}
 use borrow.Author.Tests.{le-leb, lt-leb}
 use Rattle.number.specs.Questions.{Question, question, firstNo}
 use Rattle.rules.specs.Chart.{inDomain, classes}
+use Rattle.rules.specs.Calls.{admitted}
 use Rattle.rules.proofs.Demand.{same-length}
 
 module _ (m : List ℕ) where
@@ -16,6 +17,13 @@ module _ (m : List ℕ) where
 
   pub beyond : 1048576 < length m → firstNo (inDomain m ∷ []) ≡ 1
   beyond h = rw (lt-leb (length m) 1048576 h)
+
+  -- all measures of a chart of the domain are admitted, and none of a longer one
+  pub all-admitted : length m ≤ 1048576 → admitted m ≡ m
+  all-admitted h = rw (le-leb (length m) 1048576 h)
+
+  pub none-admitted : 1048576 < length m → admitted m ≡ []
+  none-admitted h = rw (lt-leb (length m) 1048576 h)
 
 -- question 1 concerns the number of measures alone, and so does every answer that follows it
 pub same-domain : (a b : List ℕ) → classes a ≡ classes b → inDomain a ≡ inDomain b

@@ -5,7 +5,8 @@ use mathlib.Core.Bool.{Bool, true, false, cond}
 use mathlib.Core.List.{List, [], _∷_, map}
 use lib.Dec.{ltb, leb, eqb}
 use lib.ListN.{length, drop}
-use Rattle.rules.specs.Chart.{classes, Token, token, runs, flat, streams, counts}
+use Rattle.number.specs.Questions.{firstNo, accepted}
+use Rattle.rules.specs.Chart.{inDomain, classes, Token, token, runs, flat, streams, counts}
 use Rattle.rules.specs.Reduced.{run, standard}
 use Rattle.rules.specs.Texts.{word, text}
 use Rattle.rules.specs.declared.StreamSegment.{StreamSegment}
@@ -36,11 +37,15 @@ said (token c n s ∷ ts) = record { ended = false; class = c; length = n }
 unfoldable pub stepAt : ℕ → List ℕ → ViewToken
 stepAt k m = said (drop k (runs (classes m)))
 
+-- what a view of m holds: the measures, or none where they are refused
+abbrev pub admitted : List ℕ → List ℕ
+admitted m = accepted (firstNo (inDomain m ∷ [])) m []
+
 -- a step leaves the measures after its token
 abbrev pub afterStep : List ℕ → List ℕ
 afterStep m = drop (stepAt 0 m .length) m
 
--- k steps leave these, each taken from the view that the step before left
+-- what k steps leave, each taken from the view that the step before left
 unfoldable pub afterSteps : ℕ → List ℕ → List ℕ
 afterSteps zero m = m
 afterSteps (suc k) m = afterSteps k (afterStep m)

@@ -6,11 +6,11 @@ use mathlib.Core.List.{List, [], _∷_}
 use native.Mathlib.Omega.{arith}
 use Rattle.number.specs.Questions.{firstNo, accepted}
 use Rattle.rules.specs.Chart.{inDomain, classes}
-use Rattle.rules.specs.Calls.{stepAt}
+use Rattle.rules.specs.Calls.{stepAt, admitted}
 use Rattle.rules.specs.declared.ViewToken.{ViewToken}
 use Rattle.rules.proofs.Domain.{same-after}
 use Rattle.rules.proofs.View.{same-steps}
-use Rattle.token_view.specs.Promises.{admitted, nthAnswer}
+use Rattle.token_view.specs.Promises.{nthAnswer}
 use Rattle.token_view.specs.Steps.{Stepped}
 use Rattle.token_view.proofs.Views.{After, after-none, after-more, step-says}
 

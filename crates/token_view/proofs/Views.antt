@@ -12,11 +12,11 @@ use borrow.Author.Tests.{leb-true}
 use Rattle.number.specs.Questions.{firstNo}
 use Rattle.number.proofs.Split.{split}
 use Rattle.rules.specs.Chart.{inDomain, classOf, classes, runsFrom, runs}
-use Rattle.rules.specs.Calls.{stepAt, afterStep, afterSteps}
+use Rattle.rules.specs.Calls.{stepAt, afterStep, afterSteps, admitted}
 use Rattle.rules.specs.declared.ViewToken.{ViewToken}
 use Rattle.rules.proofs.Domain.{within}
 use Rattle.rules.proofs.View.{steps-follow}
-use Rattle.token_view.specs.Promises.{admitted, Opening, Step, nthAnswer}
+use Rattle.token_view.specs.Promises.{Opening, Step, nthAnswer}
 
 -- what `&m[n..]` holds
 pub part-from : (n : ℕ) (m : List ℕ) → take (length m - n) (drop n m) ≡ drop n m

@@ -3,15 +3,11 @@
 use Prim.Native.Nat.{ℕ}
 use mathlib.Core.Path.{_≡_}
 use mathlib.Core.List.{List, [], _∷_}
-use Rattle.number.specs.Questions.{firstNo, accepted}
+use Rattle.number.specs.Questions.{firstNo}
 use Rattle.rules.specs.Chart.{inDomain}
-use Rattle.rules.specs.Calls.{stepAt, afterStep}
+use Rattle.rules.specs.Calls.{stepAt, afterStep, admitted}
 use Rattle.rules.specs.declared.ViewToken.{ViewToken}
 use Rattle.token_view.specs.declared.NthToken.{NthToken}
-
--- what a view of m holds: the measures, or none where they are refused
-abbrev pub admitted : List ℕ → List ℕ
-admitted m = accepted (firstNo (inDomain m ∷ [])) m []
 
 -- stream_tokens: question 1, and a view of the measures, empty if they are refused
 pub record Opening (m : List ℕ) (refused : ℕ) (view : List ℕ) : Type 0 where

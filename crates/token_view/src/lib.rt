@@ -6,8 +6,8 @@ ghost use mathlib.Core.List.{[], _∷_};
 ghost use lib.ListN.{drop};
 ghost use Rattle.number.specs.Questions.{firstNo};
 ghost use Rattle.rules.specs.Chart.{inDomain};
-ghost use Rattle.rules.specs.Calls.{stepAt};
-ghost use Rattle.token_view.specs.Promises.{admitted, Opening, Step, nthAnswer};
+ghost use Rattle.rules.specs.Calls.{stepAt, admitted};
+ghost use Rattle.token_view.specs.Promises.{Opening, Step, nthAnswer};
 
 // What is left to step through.
 pub struct TokenView<'a> {
@@ -51,7 +51,7 @@ fn admit(m: &[u32]) -> &[u32]
 fn first_token(m: &[u32]) -> ViewToken
     ensures { λ r. ⌜ r ≡ stepAt 0 (admitted (now (m .entry))) ⌝ }
 {
-    token_at(admit(m), 0)
+    token_at(m, 0)
 }
 
 // What follows the first n measures.

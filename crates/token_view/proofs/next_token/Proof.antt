@@ -42,8 +42,7 @@ use denote.Triple.Table.{entered, cited}
 use denote.Triple.Walked.{says, Stays, stay-none, walkOf, goes-none, ends-at, walked, walk-meets}
 use denote.Exit.{yes}
 use denote.Triple.Clauses.{lasts}
-use Rattle.rules.specs.Calls.{stepAt, afterStep}
-use Rattle.token_view.specs.Promises.{admitted}
+use Rattle.rules.specs.Calls.{stepAt, afterStep, admitted}
 use Rattle.rules.specs.declared.ViewToken.{ViewToken}
 use Rattle.token_view.specs.declared.TokenStep.{TokenStep}
 use Rattle.token_view.specs.declared.TokenView.{TokenView}

@@ -41,7 +41,7 @@ use denote.Exit.{yes}
 use denote.Triple.Clauses.{lasts}
 use Rattle.number.specs.Questions.{firstNo}
 use Rattle.rules.specs.Chart.{inDomain}
-use Rattle.token_view.specs.Promises.{admitted}
+use Rattle.rules.specs.Calls.{admitted}
 use Rattle.token_view.specs.declared.Opened.{Opened}
 use Rattle.token_view.specs.declared.TokenView.{TokenView}
 use Rattle.token_view.proofs.Opened as O

@@ -45,10 +45,10 @@ use denote.Triple.Table.{entered, cited}
 use denote.Triple.Walked.{says, Stays, stay-none, stay-none-slice, walkOf, goes-none, goes-none-slice, ends-at, walked, walk-meets}
 use denote.Exit.{yes}
 use denote.Triple.Clauses.{lasts}
-use Rattle.token_view.specs.Promises.{admitted, Opening, Step, nthAnswer}
+use Rattle.token_view.specs.Promises.{Opening, Step, nthAnswer}
 use Rattle.token_view.specs.declared.Opened.{Opened}
 use Rattle.token_view.specs.declared.NthToken.{NthToken}
-use Rattle.rules.specs.Calls.{stepAt}
+use Rattle.rules.specs.Calls.{stepAt, admitted}
 use Rattle.rules.specs.declared.ViewToken.{ViewToken}
 use Rattle.token_view.specs.declared.TokenStep.{TokenStep}
 use Rattle.token_view.specs.declared.TokenView.{TokenView}

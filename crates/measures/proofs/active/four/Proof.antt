@@ -54,7 +54,8 @@ returns : tie.Need-returns
 returns c =
     let s = c .before .before .before .before .before .before .before .before .before in
     block (s .args .m .now) (s .args .lo) (s .args .more) (s .args .i) _ _ _ _ (s .pre .within) (s .pre .fit)
-    (c .before .before .before .before .before .before .wrapping-sub-u32 .ensures) (c .before .before .before .before .wrapping-sub-u322 .ensures) (c .before .before .wrapping-sub-u323 .ensures) (c .wrapping-sub-u324 .ensures)
+    (c .before .before .before .before .before .before .wrapping-sub-u32 .ensures) (c .before .before .before .before .wrapping-sub-u322 .ensures)
+    (c .before .before .wrapping-sub-u323 .ensures) (c .wrapping-sub-u324 .ensures)
 
 pub four-spec : {M : Type 1} → statement M
 four-spec =

@@ -62,8 +62,10 @@ loop-less c = search needs
 
 loop-again : tie.Need-loop-again Inv-loop μ-loop
 loop-again c =
+    let r = c .before .before .before .before .before .before in
+    let t = r .before .before .before in
     rw (
-      c .before .before .before .before .before .before .add-if .ensures,
+      r .add-if .ensures,
       c .before .before .before .before .before .add-if2 .ensures,
       c .before .before .before .before .add-if3 .ensures,
       c .before .before .before .add-if4 .ensures,
@@ -71,7 +73,7 @@ loop-again c =
       c .add-if6 .ensures,
       c .before .wide .ensures .gap,
     )
-    (added (c .before .before .before .before .before .before .before .before .before .before .loop .inv) (c .before .before .before .before .before .before .before .before .before .loop-test .taken))
+    (added (t .before .loop .inv) (t .loop-test .taken))
 
 returns : tie.Need-returns Inv-loop μ-loop
 returns c = finished (c .before .loop .inv) (c .loop-test .left)

@@ -1,6 +1,6 @@
 -- `measures::scan::bounds_of` meets its contract: one law for each class.
 -- Assumes nothing.
-use Rattle.measures.proofs.Table.{fourth}
+use Rattle.measures.proofs.Classes.{fourth}
 use Rattle.rules.proofs.Steps.{class-0, class-1, class-2, class-3, class-4}
 use native.Mathlib.Omega.{arith}
 use Rattle.measures.proofs.scan.bounds_of.Statement.{statement}

@@ -1,21 +1,31 @@
--- `measures::scan::class_at` meets its contract: the law of the table, and the class of 32 above it.
+-- `measures::scan::class_at` meets its contract: the digit that is left is the class, and above 32 that of 32.
 -- Assumes nothing.
 use mathlib.Core.Logic.{⊎-elim}
-use Rattle.measures.proofs.Table.{up-to, above}
+use borrow.Author.Needs.{needs}
 use native.Mathlib.Omega.{arith}
+use Rattle.measures.proofs.Classes.{up-to, above}
 use Rattle.measures.proofs.scan.class_at.Statement.{statement}
 use Rattle.measures.proofs.scan.class_at.Tie as tie
 
-element-copy-out-result : tie.Need-element-copy-out-result
-element-copy-out-result c = ⊎-elim (λ w. omega arith) (λ w. omega arith) (c .before .if1 .came)
+mul-result : tie.Need-mul-result
+mul-result c = search needs
+
+cast-result : tie.Need-cast-result
+cast-result c = search needs
+
+shr-result : tie.Need-shr-result
+shr-result c = ⊎-elim (λ w. omega arith) (λ w. omega arith) (c .before .if1 .came)
+
+cast-result-2 : tie.Need-cast-result-2
+cast-result-2 c = search needs
 
 returns : tie.Need-returns
 returns c =
-    let p = c .before .before .before in
+    let d = c .before .before .args .d in
     ⊎-elim
-    (λ w. above (p .args .table .now) _ (p .args .d) (p .pre) (w .1) (w .0 .taken))
-    (λ w. up-to (p .args .table .now) _ (p .args .d) (p .pre) (w .1) (w .0 .left))
-    (c .before .before .if1 .came)
+    (λ w. rw (w .1) (above d (w .0 .taken)))
+    (λ w. rw (w .1) (up-to d (w .0 .left)))
+    (c .before .if1 .came)
 
 pub class-at-spec : {M : Type 1} → statement M
-class-at-spec = tie.close (tie.spec element-copy-out-result returns)
+class-at-spec = tie.close (tie.spec mul-result cast-result shr-result cast-result-2 returns)

@@ -14,11 +14,12 @@ use Rattle.measures.proofs.scan.runs_into.Tie as tie
 
 -- the invariant speaks of what the slices hold where the loop begins, and not where the function does: so it says that what is so there stays so
 abbrev Inv-loop : tie.InvT-loop
-Inv-loop m cs₀ ns₀ table most c p₀ i₀ cs ns p i =
-    (old new : List ℕ) → ScanInvariant m old new cs₀ ns₀ most (p₀ .class) (p₀ .length) (p₀ .place) i₀ → ScanInvariant m old new cs ns most (p .class) (p .length) (p .place) i
+Inv-loop m cs₀ ns₀ most c p₀ i₀ cs ns p i =
+    (old new : List ℕ) → ScanInvariant m old new cs₀ ns₀ most (p₀ .class) (p₀ .length) (p₀ .place) i₀
+    → ScanInvariant m old new cs ns most (p .class) (p .length) (p .place) i
 
 abbrev μ-loop : tie.MeasureT-loop
-μ-loop m cs₀ ns₀ table most c p₀ i₀ cs ns p i = length m - i
+μ-loop m cs₀ ns₀ most c p₀ i₀ cs ns p i = length m - i
 
 -- the loop's head, over what the function's entry had in the slices
 invariant : (c : tie.At-loop Inv-loop μ-loop) →
@@ -27,8 +28,9 @@ invariant : (c : tie.At-loop Inv-loop μ-loop) →
     ScanInvariant (s .m .now) (s .cs .now) (s .ns .now) (l .cs) (l .ns) (s .most) (l .p .class) (l .p .length) (l .p .place) (l .i)
 invariant c =
     let s = c .before .before .before .before .before .before .before in
-    c .loop .inv (s .args .cs .now) (s .args .ns .now)
-    (rw (c .before .class-at .ensures) (starts (s .args .m .now) (s .args .cs .now) (s .args .ns .now) (s .args .most) (omega arith) (s .pre .roomC) (s .pre .roomN)))
+    let a = s .args in
+    c .loop .inv (a .cs .now) (a .ns .now)
+    (rw (c .before .class-at .ensures) (starts (a .m .now) (a .cs .now) (a .ns .now) (a .most) (omega arith) (s .pre .roomC) (s .pre .roomN)))
 
 -- over measures of the pending class
 on : (c : tie.After-run-on Inv-loop μ-loop) (old new : List ℕ) →
@@ -39,19 +41,18 @@ on : (c : tie.After-run-on Inv-loop μ-loop) (old new : List ℕ) →
     → ScanInvariant (s .m .now) old new (l .cs) (set (l .ns) (l .p .place) n) (s .most) (l .p .class) n (l .p .place) (c .run-on .result)
 on c old new g = skipped g (c .run-on .ensures)
 
--- .. then step by step
+-- what `steps_into` asks behind them
 ready : (c : tie.After-run-on Inv-loop μ-loop) (count : ℕ) →
     let s = c .before .before .before .before .before .before .before .before .before .before .args in
     let l = c .before .before .before .loop in
     let n = l .p .length + (c .run-on .result - l .i) in
     c .run-on .result + count ≤ length (s .m .now)
     → count ≤ 16
-    → Steps (s .m .now) (c .run-on .result) count (l .cs) (set (l .ns) (l .p .place) n) (s .table .now) (record { class = l .p .class; length = n; place = l .p .place })
+    → Steps (s .m .now) (c .run-on .result) count (l .cs) (set (l .ns) (l .p .place) n) (record { class = l .p .class; length = n; place = l .p .place })
 ready c count h b =
     let s = c .before .before .before .before .before .before .before .before .before .before in
     record {
       few = s .pre .few;
-      right = s .pre .right;
       within = h;
       most = s .args .most;
       low = omega (arith, c .before .if2 .left);
@@ -148,7 +149,8 @@ loop-again-2 c =
     let r = w .before .before .before .before .before in
     let m = r .before .before .before .before .before .before .before .before .before .before .args .m .now in
     let e : r .run-on .result + (length m - r .run-on .result) ≡ length m = omega (arith, r .run-on .ensures .within) in
-    λ old new g. rw e at (w .steps-into2 .ensures _ old new (omega (arith, r .before .if2 .left)) (on r old new (r .before .before .before .loop .inv old new g)))
+    λ old new g.
+    rw e at (w .steps-into2 .ensures _ old new (omega (arith, r .before .if2 .left)) (on r old new (r .before .before .before .loop .inv old new g)))
 
 add-tokens : tie.Need-add-tokens Inv-loop μ-loop
 add-tokens c = let g = invariant (c .before .before) in omega arith

@@ -5,7 +5,6 @@ use mathlib.Core.Logic.{inl}
 use native.Mathlib.Omega.{arith}
 use lib.Seq.{length-take-le}
 use borrow.Author.Needs.{needs}
-use Rattle.rules.specs.Chart.{classOf}
 use Rattle.measures.specs.Sums.{sumsOf}
 use Rattle.measures.proofs.Part.{part-within, part-runs}
 use Rattle.measures.proofs.Written.{withinC, withinN, back, pairs}
@@ -19,16 +18,14 @@ active-behind-requires : tie.Need-active-behind-requires
 active-behind-requires c κs = search needs
 
 runs-into-requires : tie.Need-runs-into-requires
-unfolding classOf
 runs-into-requires c κs =
-    let s = c .before .before .before .before .before .before .before .before in
-    let e = c .before .before .before .active-behind .ensures in
-    let ts = part-runs (s .args .m .now) _ e in
+    let a = c .before .before in
+    let s = a .before .before .before .before .before in
+    let ts = part-runs (s .args .m .now) _ (a .active-behind .ensures) in
     record {
-      few = rw e (omega (arith, part-within (s .args .m .now), s .pre .few));
+      few = rw (a .active-behind .ensures) (omega (arith, part-within (s .args .m .now), s .pre .few));
       roomC = inl (rw ts (s .pre .roomC));
       roomN = inl (rw ts (s .pre .roomN));
-      right = refl;
     }
 
 slice-reshare-prefix-add-up : tie.Need-slice-reshare-prefix-add-up
@@ -45,19 +42,25 @@ slice-aggregate-add-up-2 c = sym (length-take-le _ _ (withinN (c .before .before
 
 add-up-requires : tie.Need-add-up-requires
 add-up-requires c κs =
-    let s = c .before .before .before .before .before .before .before .before .before .before .before .before .before .before .before in
-    let a = c .before .before .before .before .before .before .before .before .before .before .active-behind in
-    pairs (c .before .before .before .before .before .before .runs-into .ensures .all (omega arith)) (a .result .now) refl (rw (a .ensures) (omega (arith, part-within (s .args .m .now), s .pre .few)))
+    let r = c .before .before .before .before .before .before in
+    let a = r .before .before .before in
+    let s = a .before .before .before .before .before in
+    pairs (r .runs-into .ensures .all (omega arith)) (a .active-behind .result .now) refl
+    (rw (a .active-behind .ensures) (omega (arith, part-within (s .args .m .now), s .pre .few)))
 
 counted-requires : tie.Need-counted-requires
 counted-requires c κs =
-    let s = c .before .before .before .before .before .before .before .before .before .before .before .before .before .before .before .before in
-    let a = c .before .before .before .before .before .before .before .before .before .before .before .active-behind in
+    let r = c .before .before .before .before .before .before .before in
+    let a = r .before .before .before in
+    let s = a .before .before .before .before .before in
     record {
       few = s .pre .few;
-      led = c .before .before .before .before .before .before .before .before .before .before .before .before .lead-in .ensures;
-      active = a .ensures;
-      held = c .add-up .ensures ∙ ap sumsOf (back (c .before .before .before .before .before .before .before .runs-into .ensures .all (omega arith)) (a .result .now) refl ∙ part-runs (s .args .m .now) _ (a .ensures));
+      led = a .before .lead-in .ensures;
+      active = a .active-behind .ensures;
+      held =
+          c .add-up .ensures
+          ∙ ap sumsOf
+          (back (r .runs-into .ensures .all (omega arith)) (a .active-behind .result .now) refl ∙ part-runs (s .args .m .now) _ (a .active-behind .ensures));
     }
 
 same-length : tie.Need-same-length
@@ -68,10 +71,12 @@ same-length-2 c = search needs
 
 returns : tie.Need-returns
 returns c =
-    let s = c .before .before .before .before .before .before .before .before .before .before .before .before .before .before .before .before .before in
+    let r = c .before .before .before .before .before .before .before .before in
+    let a = r .before .before .before in
+    let s = a .before .before .before .before .before in
     record {
       counted = c .counted .ensures;
-      written = rw (part-runs (s .args .m .now) _ (c .before .before .before .before .before .before .before .before .before .before .before .before .active-behind .ensures)) at (c .before .before .before .before .before .before .before .before .runs-into .ensures .all (omega arith));
+      written = rw (part-runs (s .args .m .now) _ (a .active-behind .ensures)) at (r .runs-into .ensures .all (omega arith));
     }
 
 pub scan-spec : {M : Type 1} → statement M

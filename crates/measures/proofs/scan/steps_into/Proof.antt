@@ -14,10 +14,10 @@ use Rattle.measures.proofs.scan.steps_into.Statement.{statement}
 use Rattle.measures.proofs.scan.steps_into.Tie as tie
 
 abbrev Inv-loop : tie.InvT-loop
-Inv-loop m from count cs₀ ns₀ table c₀ n₀ k₀ t₀ cs ns c n k t = Onward m from t cs₀ cs ns₀ ns c₀ n₀ k₀ c n k × (t ≤ count) × (k ≤ k₀ + t)
+Inv-loop m from count cs₀ ns₀ c₀ n₀ k₀ t₀ cs ns c n k t = Onward m from t cs₀ cs ns₀ ns c₀ n₀ k₀ c n k × (t ≤ count) × (k ≤ k₀ + t)
 
 abbrev μ-loop : tie.MeasureT-loop
-μ-loop m from count cs₀ ns₀ table c₀ n₀ k₀ t₀ cs ns c n k t = count - t
+μ-loop m from count cs₀ ns₀ c₀ n₀ k₀ t₀ cs ns c n k t = count - t
 
 -- the loop's head
 invariant : (c : tie.At-loop Inv-loop μ-loop) →
@@ -44,15 +44,16 @@ step c most old new h g =
     (λ w. rw (e, w .1, w .2, d) (same g (omega arith) (sym d ∙ w .0 .left)))
     (c .if1 .came)
 
--- .. over what the function's entry knows of
+-- one more measure, over what the function's entry knows of
 stepped : (c : tie.Joined1 Inv-loop μ-loop) →
     let s = c .before .before .before .before .before .before .before .before in
     let l = c .before .before .before .before .loop in
     let d = c .before .class-at .result in
-    ScanInvariant (s .args .m .now) (s .pre .old) (s .pre .new) (set (l .cs) (c .if1 .k) d) (set (l .ns) (c .if1 .k) (c .if1 .n)) (s .pre .most) d (c .if1 .n) (c .if1 .k) (s .args .from + (l .t + 1))
+    ScanInvariant (s .args .m .now) (s .pre .old) (s .pre .new) (set (l .cs) (c .if1 .k) d) (set (l .ns) (c .if1 .k) (c .if1 .n))
+    (s .pre .most) d (c .if1 .n) (c .if1 .k) (s .args .from + (l .t + 1))
 stepped c = step c _ _ _ (omega arith) (invariant (c .before .before .before .before))
 
--- .. has its place
+-- the token that is written has its place
 kept : (c : tie.Joined1 Inv-loop μ-loop) →
     let l = c .before .before .before .before .loop in
     (c .if1 .k < length (l .cs)) × (c .if1 .k < length (l .ns))
@@ -96,8 +97,11 @@ loop-less c = omega arith
 
 loop-again : tie.Need-loop-again Inv-loop μ-loop
 loop-again c =
-    let l = c .before .before .before .before .before .loop in
-    (λ most old new h g. step (c .before) most old new (omega arith) (l .inv .0 most old new (omega arith) g), omega arith, ⊎-elim (λ w. omega arith) (λ w. omega arith) (c .before .if1 .came))
+    let l = c .before .before .before .before .before .loop in (
+      λ most old new h g. step (c .before) most old new (omega arith) (l .inv .0 most old new (omega arith) g),
+      omega arith,
+      ⊎-elim (λ w. omega arith) (λ w. omega arith) (c .before .if1 .came),
+    )
 
 same-length : tie.Need-same-length Inv-loop μ-loop
 same-length c = longC (invariant (c .before)) ∙ sym (longC (c .before .before .before .before .before .pre .invariant))

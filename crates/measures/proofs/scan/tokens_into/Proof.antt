@@ -1,12 +1,10 @@
 -- `measures::scan::tokens_into` meets its contract: by the laws of `Front`, over what `runs_into` left.
 -- Assumes nothing.
 use Prim.Native.Nat.{_-_, _≤_}
-use mathlib.Core.Path.{refl}
 use mathlib.Core.Logic.{inr}
 use native.Mathlib.Omega.{arith}
 use lib.ListN.{getD}
 use borrow.Author.Needs.{needs}
-use Rattle.rules.specs.Chart.{classOf}
 use Rattle.measures.proofs.Front.{some, kept, held, fewer}
 use Rattle.measures.proofs.scan.tokens_into.Statement.{statement}
 use Rattle.measures.proofs.scan.tokens_into.Tie as tie
@@ -17,21 +15,20 @@ short : (c : tie.After-slice-known6) →
     getD (r .last .1 .1 .0) (r .result .tokens - 1) 0 ≤ r .result .next
 short c =
     let w = c .before .before .before .before .before .before .before .before in
-    held (w .before .before .before .before .before .before .before .pre) (w .runs-into .ensures) (search needs) (search needs) (c .before .if1 .left)
+    held (w .before .before .before .before .before .before .pre) (w .runs-into .ensures) (search needs) (search needs) (c .before .if1 .left)
 
 sub-most : tie.Need-sub-most
 sub-most c = search needs
 
 runs-into-requires : tie.Need-runs-into-requires
-unfolding classOf
 runs-into-requires c κs =
-    let p = c .before .before .before .before .before .before .pre in
-    record { few = p .few; roomC = inr (omega arith); roomN = inr (omega arith); right = refl }
+    let p = c .before .before .before .before .before .pre in
+    record { few = p .few; roomC = inr (omega arith); roomN = inr (omega arith) }
 
 sub-last : tie.Need-sub-last
 sub-last c =
     let w = c .before .before .before .before .before in
-    some (w .before .before .before .before .before .before .before .pre) (w .runs-into .ensures) (search needs) (search needs)
+    some (w .before .before .before .before .before .before .pre) (w .runs-into .ensures) (search needs) (search needs)
 
 slice-read-if1 : tie.Need-slice-read-if1
 slice-read-if1 c = search needs
@@ -45,19 +42,19 @@ same-length-2 c = search needs
 returns : tie.Need-returns
 returns c =
     let w = c .before .before .before .before .before .before .before in
-    kept (w .before .before .before .before .before .before .before .pre) (w .runs-into .ensures) (search needs) (search needs) (c .if1 .taken)
+    kept (w .before .before .before .before .before .before .pre) (w .runs-into .ensures) (search needs) (search needs) (c .if1 .taken)
 
-mul-t9 : tie.Need-mul-t9
-mul-t9 c = search needs
+mul-t7 : tie.Need-mul-t7
+mul-t7 c = search needs
 
-slice-read-t19 : tie.Need-slice-read-t19
-slice-read-t19 c = search needs
+slice-read-t16 : tie.Need-slice-read-t16
+slice-read-t16 c = search needs
 
-cast-t20 : tie.Need-cast-t20
-cast-t20 c = omega (arith, short c)
+cast-t17 : tie.Need-cast-t17
+cast-t17 c = omega (arith, short c)
 
-sub-t21 : tie.Need-sub-t21
-sub-t21 c = short (c .before)
+sub-t18 : tie.Need-sub-t18
+sub-t18 c = short (c .before)
 
 same-length-3 : tie.Need-same-length-3
 same-length-3 c = search needs
@@ -68,7 +65,7 @@ same-length-4 c = search needs
 returns-2 : tie.Need-returns-2
 returns-2 c =
     let w = c .before .before .before .before .before .before .before .before .before in
-    fewer (w .before .before .before .before .before .before .before .pre) (w .runs-into .ensures) (search needs) (search needs) (c .before .before .if1 .left)
+    fewer (w .before .before .before .before .before .before .pre) (w .runs-into .ensures) (search needs) (search needs) (c .before .before .if1 .left)
 
 pub tokens-into-spec : {M : Type 1} → statement M
 tokens-into-spec =
@@ -81,10 +78,10 @@ tokens-into-spec =
     same-length
     same-length-2
     returns
-    mul-t9
-    slice-read-t19
-    cast-t20
-    sub-t21
+    mul-t7
+    slice-read-t16
+    cast-t17
+    sub-t18
     same-length-3
     same-length-4
     returns-2)

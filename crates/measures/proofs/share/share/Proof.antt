@@ -5,7 +5,8 @@ use native.Mathlib.Omega.{arith}
 use borrow.Author.Needs.{needs}
 use borrow.Author.Tests.{le-leb, lt-leb, lt-ltb}
 use Rattle.rules.specs.Chart.{classes, streams}
-use Rattle.measures.proofs.Shared.{Known, known, share-low}
+use Rattle.rules.proofs.Share.{share-most}
+use Rattle.measures.proofs.Shared.{Known, known}
 use Rattle.measures.proofs.share.share.Statement.{statement}
 use Rattle.measures.proofs.share.share.Tie as tie
 
@@ -30,9 +31,9 @@ add-streams-3 c = let k = counted (c .before .before .before) in omega arith
 
 returns-2 : tie.Need-returns-2
 returns-2 c =
-    let k = counted (c .before .before .before .before) in
-    let z : streams (classes (c .before .before .before .before .before .before .before .args .m .now)) ≡ 0 = sym (k .sum) ∙ c .if2 .taken in
-    rw (le-leb _ 1048576 (c .before .before .before .before .before .if1 .left), z)
+    let r = c .before .before .before .before in
+    let none : streams (classes (r .before .before .before .args .m .now)) ≡ 0 = sym (counted r .sum) ∙ c .if2 .taken in
+    rw (le-leb _ 1048576 (r .before .if1 .left), none)
 
 cast-share : tie.Need-cast-share
 cast-share c = search needs
@@ -50,12 +51,17 @@ div-share : tie.Need-div-share
 div-share c = search needs
 
 cast-t7 : tie.Need-cast-t7
-cast-t7 c = omega (arith, share-low (c .before .before .before .before .before .chart-counts .result))
+cast-t7 c =
+    let r = c .before .before .before .before .before in
+    let k = counted r in
+    omega (arith, share-most (classes (r .before .before .before .args .m .now)))
 
 returns-3 : tie.Need-returns-3
 returns-3 c =
-    let k = counted (c .before .before .before .before .before) in
-    rw (le-leb _ 1048576 (c .before .before .before .before .before .before .if1 .left), lt-ltb 0 (streams (classes (c .before .before .before .before .before .before .before .before .args .m .now))) (omega arith), k .part)
+    let r = c .before .before .before .before .before in
+    let k = counted r in
+    let some = lt-ltb 0 (streams (classes (r .before .before .before .args .m .now))) (omega arith) in
+    rw (le-leb _ 1048576 (r .before .if1 .left), some, k .part)
 
 pub share-spec : {M : Type 1} → statement M
 share-spec =
