@@ -20,7 +20,7 @@ pub case12-accepted : recordNo case12 (0 ∷ 0 ∷ 0 ∷ 0 ∷ 0 ∷ 0 ∷ 0 ∷
 unfolding fieldsOf fieldNo recordNo
 case12-accepted = refl
 
--- records that are refused ..
+-- records that are refused
 abbrev bad : List (List ℕ)
 bad =
     (1 ∷ 0 ∷ []) ∷  -- a head is cut
@@ -35,7 +35,7 @@ bad =
     name (2 ∷ 0 ∷ 1 ∷ 16 ∷ []) ∷  -- no place for a density
     []
 
--- .. and their numbers, where no place is lent
+-- their numbers, where no place is lent
 pub refusals : map (λ r. recordNo r []) bad ≡ 8 ∷ 8 ∷ 9 ∷ 10 ∷ 10 ∷ 10 ∷ 11 ∷ 11 ∷ 11 ∷ 12 ∷ []
 unfolding fieldsOf fieldNo recordNo
 refusals = refl

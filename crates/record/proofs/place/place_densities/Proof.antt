@@ -44,7 +44,7 @@ same-length-2 : tie.Need-same-length-2 Inv-loop μ-loop
 same-length-2 c = c .before .before .before .loop .inv .long
 
 returns-2 : tie.Need-returns-2 Inv-loop μ-loop
-returns-2 c = cut-off (c .before .before .before .loop .inv) (is-cut _ _ (sym (c .enum-told2 .given .1) ∙ c .before .before .field-at .ensures))
+returns-2 c = cut-off (c .before .before .before .loop .inv) (is-cut _ _ _ (sym (c .enum-told2 .given .1) ∙ c .before .before .field-at .ensures))
 
 enum-known-field : tie.Need-enum-known-field Inv-loop μ-loop
 enum-known-field c = search needs
