@@ -44,4 +44,6 @@ module _ (a b : List ℕ) (s : Alike a b) where
   pub same-no : (old lent : List ℕ) → length old ≡ length lent → recordNo a old ≡ recordNo b lent
   unfolding recordNo
   same-no old lent h =
-      rw (same-fields true (fieldsOf a) (fieldsOf b) (length a) (length b) (sized a) (sized b) (s .long) (s .tagged) (s .sized) (λ f. s .names), same-measures, h)
+      let named : true ≡ true → nameOf (fieldsOf a) ≡ nameOf (fieldsOf b) = λ f. s .names in
+      let fields = same-fields true (fieldsOf a) (fieldsOf b) (length a) (length b) (sized a) (sized b) (s .long) (s .tagged) (s .sized) named in
+      rw (fields, same-measures, h)

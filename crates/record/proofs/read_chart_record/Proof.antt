@@ -28,7 +28,8 @@ refusal-requires-3 c κs = search needs
 returns-3 : tie.Need-returns-3
 returns-3 c =
     let h = c .before .before .before in
-    no-place _ (h .before .before .before .before .check-fields .ensures) (h .before .before .if1 .left) (h .if2 .left) (c .refusal3 .ensures) (c .before .if3 .taken)
+    let t = h .before .before in
+    no-place _ (t .before .before .check-fields .ensures) (t .if1 .left) (h .if2 .left) (c .refusal3 .ensures) (c .before .if3 .taken)
 
 place-densities-requires : tie.Need-place-densities-requires
 place-densities-requires c κs =
@@ -40,8 +41,10 @@ same-length c = search needs
 
 returns-4 : tie.Need-returns-4
 returns-4 c =
-    let h = c .before .before .before .before .before .before in
-    accepts _ (h .before .before .before .before .check-fields .ensures) (h .before .before .if1 .left) (h .if2 .left) (c .before .before .before .before .if3 .left) (c .before .before .place-densities .ensures)
+    let u = c .before .before .before .before in
+    let h = u .before .before in
+    let t = h .before .before in
+    accepts _ (t .before .before .check-fields .ensures) (t .if1 .left) (h .if2 .left) (u .if3 .left) (c .before .before .place-densities .ensures)
 
 pub read-chart-record-spec : {M : Type 1} → statement M
 read-chart-record-spec =

@@ -68,8 +68,9 @@ loop-less c = omega (arith, field-found (c .before .before .before .before .befo
 
 loop-again : tie.Need-loop-again Inv-loop μ-loop
 loop-again c =
-    let f = c .before .before .before .before .before .before .before in
-    step (f .before .before .before .loop .inv) (field-found f) (c .before .before .before .before .before .if1 .taken) (c .before .before .put-payload .ensures)
+    let t = c .before .before .before .before .before in
+    let f = t .before .before in
+    step (f .before .before .before .loop .inv) (field-found f) (t .if1 .taken) (c .before .before .put-payload .ensures)
 
 loop-less-2 : tie.Need-loop-less-2 Inv-loop μ-loop
 loop-less-2 c = omega (arith, field-found (c .before .before))

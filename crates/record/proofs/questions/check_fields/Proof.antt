@@ -37,7 +37,8 @@ refused-by-requires c κs = search needs
 returns : tie.Need-returns Inv-loop μ-loop
 returns c =
     let m = c .before .before in
-    empty (m .before .before .before .loop .inv) (is-end _ _ (sym (m .enum-told .given .1) ∙ m .before .before .field-at .ensures)) (c .before .if1 .taken) (c .refused-by .ensures)
+    let none = is-end _ _ (sym (m .enum-told .given .1) ∙ m .before .before .field-at .ensures) in
+    empty (m .before .before .before .loop .inv) none (c .before .if1 .taken) (c .refused-by .ensures)
 
 returns-2 : tie.Need-returns-2 Inv-loop μ-loop
 returns-2 c =
