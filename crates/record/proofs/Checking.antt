@@ -11,17 +11,18 @@ use borrow.Author.Tests.{eq-eqb, ne-eqb, eqb-true}
 use Rattle.number.specs.Questions.{accepted}
 use Rattle.number.proofs.Split.{split}
 use Rattle.record.specs.Record.{end, cut, fieldsOf, fieldNo, fieldsNo, densities, nameOf}
-use Rattle.record.specs.Steps.{FieldsChecked}
+use Rattle.record.specs.Steps.{checkedFields, refusedFields}
 use Rattle.record.specs.declared.questions.Checked.{Checked}
 use Rattle.record.proofs.Fields.{payload, WholeAt}
+use Rattle.record.proofs.Sizes.{cut-number}
 
--- an accepted name is the first field ..
+-- an accepted name is the first field
 name-first : (first : Bool) (t : ℕ) (p : List ℕ) → fieldNo first t p ≡ 0 → t ≡ 1 → first ≡ true
 unfolding fieldNo
 name-first true t p h e = refl
 name-first false t p h e = absurd (omega (arith, rw e at h))
 
--- .. and any other accepted field has densities and is not the first
+-- any other accepted field has densities and is not the first
 else-densities : (first : Bool) (t : ℕ) (p : List ℕ) → fieldNo first t p ≡ 0 → (t ≡ 1 → ⊥) → (t ≡ 2) × (first ≡ false)
 unfolding fieldNo
 else-densities first t p h ne =
@@ -51,30 +52,29 @@ module _ (bytes : List ℕ) where
   starts = record { within = omega arith; few = omega arith; asked = refl; counted = omega arith; named = refl }
 
 module _ {bytes : List ℕ} {at measures name : ℕ} (g : Checking bytes at measures name) where
-  refuse : (r : Checked) → r .refused ≡ fieldsNo (eqb at 0) (fieldsOf (drop at bytes)) → (r .refused ≡ 0 → ⊥) → FieldsChecked bytes r
-  refuse r e ne = record { refused = e ∙ sym (g .asked); measures = λ z. absurd (ne z); name = λ z. absurd (ne z) }
+  refuse : (n : ℕ) {r : Checked} → fieldsNo (eqb at 0) (fieldsOf (drop at bytes)) ≡ n → (n ≡ 0 → ⊥) → r ≡ refusedFields n → r ≡ checkedFields bytes
+  refuse zero e ne k = absurd (ne refl)
+  refuse (suc n) e ne k = rw (g .asked ∙ e) k
 
-  -- at the end: an empty record ..
-  pub empty : {r : Checked} → fieldsOf (drop at bytes) ≡ end → at ≡ 0 → r .refused ≡ 10 → FieldsChecked bytes r
-  empty {r} e z k = refuse r (k ∙ rw (e, eq-eqb at 0 z)) (λ f. omega arith)
+  -- at the end of an empty record
+  pub empty : {r : Checked} → fieldsOf (drop at bytes) ≡ end → at ≡ 0 → r ≡ refusedFields 10 → r ≡ checkedFields bytes
+  empty e z k = refuse 10 (rw (e, eq-eqb at 0 z)) (λ f. omega arith) k
 
-  -- .. or all fields accepted
-  pub done : fieldsOf (drop at bytes) ≡ end → (at ≡ 0 → ⊥) → FieldsChecked bytes (record { refused = 0; measures = measures; «name_length» = name })
+  -- at the end, with all fields accepted
+  pub done : fieldsOf (drop at bytes) ≡ end → (at ≡ 0 → ⊥) → record { refused = 0; measures = measures; «name_length» = name } ≡ checkedFields bytes
   done e ne =
-      record {
-        refused = sym (g .asked ∙ rw (e, ne-eqb at 0 ne));
-        measures = λ z. omega (arith, rw e at (g .counted));
-        name = λ z. sym (rw (ne-eqb at 0 ne) at (g .named));
-      }
+      let no : fieldsNo true (fieldsOf bytes) ≡ 0 = g .asked ∙ rw (e, ne-eqb at 0 ne) in
+      let many : length (densities (fieldsOf bytes)) ≡ measures = omega (arith, rw e at (g .counted)) in
+      rw (no, many, rw (ne-eqb at 0 ne) at (g .named))
 
-  pub cut-off : {r : Checked} → fieldsOf (drop at bytes) ≡ cut → r .refused ≡ 8 → FieldsChecked bytes r
-  cut-off {r} e k = refuse r (k ∙ rw e) (λ f. omega arith)
+  -- at a cut field
+  pub cut-off : {n : ℕ} {r : Checked} → fieldsOf (drop at bytes) ≡ cut n → r ≡ refusedFields n → r ≡ checkedFields bytes
+  cut-off {n} e k = refuse n (rw e) (λ z. omega (arith, cut-number (drop at bytes) e)) k
 
   -- at a whole field
   module _ {t s e : ℕ} (w : WholeAt bytes at t s e) {k : ℕ} (n : k ≡ fieldNo (eqb at 0) t (payload s e bytes)) where
-    pub turned-down : {r : Checked} → (k ≡ 0 → ⊥) → r .refused ≡ k → FieldsChecked bytes r
-    turned-down {r} ne f =
-        refuse r (f ∙ rw (w .fields, ← n) (sym (refused-is (fieldsNo false (fieldsOf (drop e bytes))) k k ne))) (λ z. ne (sym f ∙ z))
+    pub turned-down : {r : Checked} → (k ≡ 0 → ⊥) → r ≡ refusedFields k → r ≡ checkedFields bytes
+    turned-down ne f = refuse k (rw (w .fields, ← n) (refused-is (fieldsNo false (fieldsOf (drop e bytes))) k k ne)) ne f
 
     module _ (z : k ≡ 0) where
       later : eqb e 0 ≡ false

@@ -33,14 +33,14 @@ enough (suc k) (suc j) (t ∷ u ∷ v ∷ bytes) g h =
 -- the first field of some bytes, of which three are there
 pub fields-head : (t u v : ℕ) (bytes : List ℕ)
     → fieldsOf (t ∷ u ∷ v ∷ bytes)
-    ≡ cond (leb (256 * u + v) (length bytes)) (whole t (take (256 * u + v) bytes) (fieldsOf (drop (256 * u + v) bytes))) cut
+    ≡ cond (leb (256 * u + v) (length bytes)) (whole t (take (256 * u + v) bytes) (fieldsOf (drop (256 * u + v) bytes))) (cut 8)
 unfolding fieldsOf
 fields-head t u v bytes =
     let n = 256 * u + v in
     rw (enough (suc (suc (length bytes))) (length (drop n bytes)) (drop n bytes) (omega (arith, length-drop n bytes)) (omega arith))
 
--- .. with fewer it is cut
-pub fields-few : (bytes : List ℕ) → 0 < length bytes → length bytes < 3 → fieldsOf bytes ≡ cut
+-- with fewer than three bytes it is cut
+pub fields-few : (bytes : List ℕ) → 0 < length bytes → length bytes < 3 → fieldsOf bytes ≡ cut 8
 unfolding fieldsOf
 fields-few [] g h = absurd (omega arith)
 fields-few (t ∷ []) g h = refl
@@ -64,7 +64,7 @@ module _ (bytes : List ℕ) (at : ℕ) where
   unfolding fieldsOf
   at-end h = rw (drop-of-length-le bytes {i = at} (omega arith))
 
-  pub at-few : 0 < length bytes - at → length bytes - at < 3 → fieldsOf (drop at bytes) ≡ cut
+  pub at-few : 0 < length bytes - at → length bytes - at < 3 → fieldsOf (drop at bytes) ≡ cut 8
   at-few g h = fields-few (drop at bytes) (rw left g) (rw left h)
 
   three : 3 ≤ length bytes - at → drop at bytes ≡ getD bytes at 0 ∷ getD bytes (at + 1) 0 ∷ getD bytes (at + 2) 0 ∷ drop (at + 3) bytes
@@ -72,10 +72,11 @@ module _ (bytes : List ℕ) (at : ℕ) where
 
   pub at-head : 3 ≤ length bytes - at
       → fieldsOf (drop at bytes)
-      ≡ cond (leb long (length bytes - at - 3)) (whole (getD bytes at 0) (take long (drop (at + 3) bytes)) (fieldsOf (drop (at + 3 + long) bytes))) cut
+      ≡ cond (leb long (length bytes - at - 3)) (whole (getD bytes at 0) (take long (drop (at + 3) bytes)) (fieldsOf (drop (at + 3 + long) bytes))) (cut 8)
   at-head h =
       let r : length (drop (at + 3) bytes) ≡ length bytes - at - 3 = omega (arith, length-drop (at + 3) bytes) in
-      ap fieldsOf (three h) ∙ fields-head (getD bytes at 0) (getD bytes (at + 1) 0) (getD bytes (at + 2) 0) (drop (at + 3) bytes) ∙ rw (r, drop-drop long (at + 3) bytes)
+      let head = fields-head (getD bytes at 0) (getD bytes (at + 1) 0) (getD bytes (at + 2) 0) (drop (at + 3) bytes) in
+      ap fieldsOf (three h) ∙ head ∙ rw (r, drop-drop long (at + 3) bytes)
 
 -- what stands from s up to e
 abbrev pub payload : ℕ → ℕ → List ℕ → List ℕ
@@ -93,20 +94,20 @@ pub never : {C : Type 0} → _≡_ {A = ℕ} 0 1 → C
 never h = absurd (omega (arith, h))
 
 module _ (bytes : List ℕ) (at : ℕ) where
-  -- the stepper's answers: at the end, ..
+  -- what field_at answers at the end
   pub ended : length bytes - at ≡ 0 → End ≡ firstAt at (fieldsOf (drop at bytes))
   ended h = rw (at-end bytes at h)
 
-  -- .. with fewer than three bytes left, ..
-  pub headless : (length bytes - at ≡ 0 → ⊥) → length bytes - at < 3 → Cut ≡ firstAt at (fieldsOf (drop at bytes))
+  -- with fewer than three bytes left
+  pub headless : (length bytes - at ≡ 0 → ⊥) → length bytes - at < 3 → Cut 8 ≡ firstAt at (fieldsOf (drop at bytes))
   headless g h = rw (at-few bytes at (omega (arith, g)) h)
 
   module _ (n : ℕ) (e : n ≡ long bytes at) (h : 3 ≤ length bytes - at) where
-    -- .. with less than the payload left, ..
-    pub short : length bytes - at - 3 < n → Cut ≡ firstAt at (fieldsOf (drop at bytes))
+    -- with less than the payload left
+    pub short : length bytes - at - 3 < n → Cut 8 ≡ firstAt at (fieldsOf (drop at bytes))
     short g = rw (at-head bytes at h, ← e, lt-leb n (length bytes - at - 3) g)
 
-    -- .. and at a whole field
+    -- at a whole field
     module _ (g : n ≤ length bytes - at - 3) where
       at-whole : fieldsOf (drop at bytes) ≡ whole (getD bytes at 0) (take n (drop (at + 3) bytes)) (fieldsOf (drop (at + 3 + n) bytes))
       at-whole = at-head bytes at h ∙ rw (← e, le-leb n (length bytes - at - 3) g)
@@ -114,25 +115,25 @@ module _ (bytes : List ℕ) (at : ℕ) where
       pub found : Whole (getD bytes at 0) (at + 3) (at + 3 + n) ≡ firstAt at (fieldsOf (drop at bytes))
       found = rw (at-whole, length-take-le n (drop (at + 3) bytes) (rw (length-drop (at + 3) bytes) (omega arith)))
 
--- what the answers mean: nothing is left, ..
+-- what End means: nothing is left
 pub is-end : (at : ℕ) (fs : Fields) → End ≡ firstAt at fs → fs ≡ end
 is-end at end a = refl
-is-end at cut a = never (cc)
+is-end at (cut n) a = never (cc)
 is-end at (whole t p fs) a = never (cc)
 
--- .. bytes are left that are no whole field, ..
-pub is-cut : (at : ℕ) (fs : Fields) → Cut ≡ firstAt at fs → fs ≡ cut
-is-cut at end a = never (cc)
-is-cut at cut a = refl
-is-cut at (whole t p fs) a = never (cc)
+-- what Cut means: bytes are left that are no whole field
+pub is-cut : (at n : ℕ) (fs : Fields) → Cut n ≡ firstAt at fs → fs ≡ cut n
+is-cut at n end a = never (cc)
+is-cut at n (cut k) a = cc
+is-cut at n (whole t p fs) a = never (cc)
 
--- .. or a whole field is there
+-- what Whole means: a whole field is there
 module _ (bytes : List ℕ) (at t s e : ℕ) (a : Whole t s e ≡ firstAt at (fieldsOf (drop at bytes))) where
   not-end : End ≡ firstAt at (fieldsOf (drop at bytes)) → WholeAt bytes at t s e
   not-end b = never (cc)
 
-  not-cut : Cut ≡ firstAt at (fieldsOf (drop at bytes)) → WholeAt bytes at t s e
-  not-cut b = never (cc)
+  not-cut : (n : ℕ) → Cut n ≡ firstAt at (fieldsOf (drop at bytes)) → WholeAt bytes at t s e
+  not-cut n b = never (cc)
 
   there : (n : ℕ) → n ≡ long bytes at → 3 ≤ length bytes - at → n ≤ length bytes - at - 3 → WholeAt bytes at t s e
   there n f h g =
@@ -156,7 +157,7 @@ module _ (bytes : List ℕ) (at t s e : ℕ) (a : Whole t s e ≡ firstAt at (fi
       split (leb 3 left)
       (λ h. split (leb n (left - 3))
       (λ g. there n refl (leb-true 3 left h) (leb-true n (left - 3) g))
-      (λ g. not-cut (short bytes at n refl (leb-true 3 left h) (leb-false n (left - 3) g))))
+      (λ g. not-cut 8 (short bytes at n refl (leb-true 3 left h) (leb-false n (left - 3) g))))
       (λ h. split (leb 1 left)
-      (λ g. not-cut (headless bytes at (λ z. omega (arith, leb-true 1 left g)) (leb-false 3 left h)))
+      (λ g. not-cut 8 (headless bytes at (λ z. omega (arith, leb-true 1 left g)) (leb-false 3 left h)))
       (λ g. not-end (ended bytes at (omega (arith, leb-false 1 left g)))))

@@ -51,7 +51,7 @@ pub record Named (m n : ℕ) : Type 0 where
 
 named-in : (fs : Fields) (m : ℕ) → Sized fs m → fieldsNo true fs ≡ 0 → Named m (length (nameOf fs))
 named-in end m g h = absurd (omega (arith, h))
-named-in cut m g h = absurd (omega (arith, h))
+named-in (cut n) m g h = absurd (omega (arith, h, g .1))
 named-in (whole t p fs) m g h =
     let yes = first-yes (fieldsNo false fs) (fieldNo true t p) h in
     split (eqb t 1)

@@ -68,7 +68,7 @@ module _ {bytes old new : List ℕ} {at count : ℕ} (g : Placing bytes old new 
   pub ended : fieldsOf (drop at bytes) ≡ end → AllPlaced bytes old new
   ended e = done (rw e)
 
-  pub cut-off : fieldsOf (drop at bytes) ≡ cut → AllPlaced bytes old new
+  pub cut-off : {n : ℕ} → fieldsOf (drop at bytes) ≡ cut n → AllPlaced bytes old new
   cut-off e = done (rw e)
 
   module _ {t s e : ℕ} (w : WholeAt bytes at t s e) where
@@ -79,7 +79,9 @@ module _ {bytes old new : List ℕ} {at count : ℕ} (g : Placing bytes old new 
     later = densities (fieldsOf (drop e bytes))
 
     pub skip : (t ≡ 2 → ⊥) → Placing bytes old new e count
-    skip ne = record { passed = g .passed; within = w .within; all = g .all ∙ rw (w .fields, ne-eqb t 2 ne); room = g .room; long = g .long; written = g .written }
+    skip ne =
+        let all : densities (fieldsOf bytes) ≡ g .passed ++ later = g .all ∙ rw (w .fields, ne-eqb t 2 ne) in
+        record { passed = g .passed; within = w .within; all = all; room = g .room; long = g .long; written = g .written }
 
     module _ (two : t ≡ 2) where
       next : densities (fieldsOf bytes) ≡ g .passed ++ (p ++ later)

@@ -1,14 +1,15 @@
 -- From the workers' promises to that of `read_chart_record`. Nothing here speaks of code.
 -- Assumes nothing.
 use Prim.Native.Nat.{ℕ, zero, suc, _≤_, _<_}
-use mathlib.Core.Path.{_≡_, refl, sym, _∙_}
+use mathlib.Core.Path.{_≡_, refl, sym, ap, _∙_}
+use mathlib.Core.Bool.{true}
 use mathlib.Core.List.{List}
 use native.Mathlib.Omega.{arith}
 use lib.ListN.{length}
 use borrow.Author.Tests.{le-leb, lt-leb}
 use Rattle.rules.specs.Chart.{densitiesNo}
-use Rattle.record.specs.Record.{fieldsOf, densities, recordNo}
-use Rattle.record.specs.Steps.{refusalOf, FieldsChecked, RoomForAll, AllPlaced}
+use Rattle.record.specs.Record.{fieldsOf, fieldsNo, densities, nameOf, recordNo}
+use Rattle.record.specs.Steps.{refusalOf, checkedFields, RoomForAll, AllPlaced}
 use Rattle.record.specs.Promises.{ReadRecord}
 use Rattle.record.specs.declared.RecordAnswer.{RecordAnswer}
 use Rattle.record.specs.declared.questions.Checked.{Checked}
@@ -18,19 +19,26 @@ refused : {bytes old : List ℕ} {r : RecordAnswer} (n : ℕ) → r ≡ refusalO
 refused zero e ne h = absurd (ne refl)
 refused (suc n) e ne h = record { answer = rw h e; placed = rw h }
 
-module _ {bytes : List ℕ} {k : Checked} (g : FieldsChecked bytes k) where
+module _ (bytes : List ℕ) {k : Checked} (g : k ≡ checkedFields bytes) where
+  asked : fieldsNo true (fieldsOf bytes) ≡ k .refused
+  asked = sym (ap (λ (o : Checked). o .refused) g)
+
   -- a no of the fields
   pub by-fields : {old : List ℕ} {r : RecordAnswer} → r ≡ refusalOf (k .refused) → (k .refused ≡ 0 → ⊥) → ReadRecord bytes old old r
   unfolding recordNo
-  by-fields {old} e ne = refused (k .refused) e ne (rw (← (g .refused)) (refused-is (densitiesNo (densities (fieldsOf bytes)) old) (k .refused) (k .refused) ne))
+  by-fields {old} e ne =
+      refused (k .refused) e ne (rw asked (refused-is (densitiesNo (densities (fieldsOf bytes)) old) (k .refused) (k .refused) ne))
 
   module _ (z : k .refused ≡ 0) where
+    k-is : k ≡ record { refused = 0; measures = length (densities (fieldsOf bytes)); «name_length» = length (nameOf (fieldsOf bytes)) }
+    k-is = rw (asked ∙ z) at g
+
     many : length (densities (fieldsOf bytes)) ≡ k .measures
-    many = sym (g .measures z)
+    many = sym (ap (λ (o : Checked). o .measures) k-is)
 
     then-chart : (old : List ℕ) → recordNo bytes old ≡ densitiesNo (densities (fieldsOf bytes)) old
     unfolding recordNo
-    then-chart old = rw (sym (g .refused) ∙ z)
+    then-chart old = rw (asked ∙ z)
 
     module _ {old : List ℕ} where
       pub too-many : {r : RecordAnswer} → r ≡ refusalOf 1 → 1048576 < k .measures → ReadRecord bytes old old r
@@ -48,4 +56,4 @@ module _ {bytes : List ℕ} {k : Checked} (g : FieldsChecked bytes k) where
             → ReadRecord bytes old new (record { refused = 0; measures = k .measures; «name_start» = 3; «name_length» = k .«name_length» })
         accepts fits p =
             let yes : recordNo bytes old ≡ 0 = then-chart old ∙ rw (many, le-leb (k .measures) 1048576 few, le-leb (k .measures) (length old) fits) in
-            record { answer = rw (yes, g .measures z, g .name z); placed = rw yes (p .placed) }
+            record { answer = rw (yes, k-is); placed = rw yes (p .placed) }

@@ -23,13 +23,13 @@ same-field false t p q h = split (eqb t 1) (λ e. rw e) (λ e. rw e)
 same-fields : (first : Bool) (fs gs : Fields) (m n : ℕ) → Sized fs m → Sized gs n → m ≡ n → tags fs ≡ tags gs → lengths fs ≡ lengths gs
     → (first ≡ true → nameOf fs ≡ nameOf gs) → fieldsNo first fs ≡ fieldsNo first gs
 same-fields first end end m n g h e ts ls ns = refl
-same-fields first end cut m n g h e ts ls ns = absurd (omega arith)
+same-fields first end (cut j) m n g h e ts ls ns = absurd (omega arith)
 same-fields first end (whole u q gs) m n g h e ts ls ns = never (cc)
-same-fields first cut end m n g h e ts ls ns = absurd (omega arith)
-same-fields first cut cut m n g h e ts ls ns = refl
-same-fields first cut (whole u q gs) m n g h e ts ls ns = never (cc)
+same-fields first (cut i) end m n g h e ts ls ns = absurd (omega arith)
+same-fields first (cut i) (cut j) m n g h e ts ls ns = g .1 ∙ sym (h .1)
+same-fields first (cut i) (whole u q gs) m n g h e ts ls ns = never (cc)
 same-fields first (whole t p fs) end m n g h e ts ls ns = never (cc)
-same-fields first (whole t p fs) cut m n g h e ts ls ns = never (cc)
+same-fields first (whole t p fs) (cut j) m n g h e ts ls ns = never (cc)
 same-fields first (whole t p fs) (whole u q gs) m n g h e ts ls ns =
     let tag : u ≡ t = cc in
     let long : length p ≡ length q = cc in
@@ -44,4 +44,6 @@ module _ (a b : List ℕ) (s : Alike a b) where
   pub same-no : (old lent : List ℕ) → length old ≡ length lent → recordNo a old ≡ recordNo b lent
   unfolding recordNo
   same-no old lent h =
-      rw (same-fields true (fieldsOf a) (fieldsOf b) (length a) (length b) (sized a) (sized b) (s .long) (s .tagged) (s .sized) (λ f. s .names), same-measures, h)
+      let named : true ≡ true → nameOf (fieldsOf a) ≡ nameOf (fieldsOf b) = λ f. s .names in
+      let fields = same-fields true (fieldsOf a) (fieldsOf b) (length a) (length b) (sized a) (sized b) (s .long) (s .tagged) (s .sized) named in
+      rw (fields, same-measures, h)

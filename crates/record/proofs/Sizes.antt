@@ -11,18 +11,18 @@ use borrow.Author.Tests.{leb-true}
 use Rattle.number.proofs.Split.{split}
 use Rattle.record.specs.Record.{Fields, end, cut, whole, fieldsIn, fieldsOf, densities}
 
--- the fields fs are those of m bytes
+-- the fields fs are those of m bytes; a cut one is refused by 8
 abbrev pub Sized : Fields → ℕ → Type 0
 Sized end m = m ≡ 0
-Sized cut m = 0 < m
+Sized (cut n) m = (0 < m) × (n ≡ 8)
 Sized (whole t p fs) m = (3 + length p ≤ m) × Sized fs (m - (3 + length p))
 
 sized-in : (k : ℕ) (bytes : List ℕ) → length bytes ≤ k → Sized (fieldsIn k bytes) (length bytes)
 sized-in zero [] h = refl
 sized-in zero (t ∷ bytes) h = absurd (omega arith)
 sized-in (suc k) [] h = refl
-sized-in (suc k) (t ∷ []) h = omega arith
-sized-in (suc k) (t ∷ u ∷ []) h = omega arith
+sized-in (suc k) (t ∷ []) h = (omega arith, refl)
+sized-in (suc k) (t ∷ u ∷ []) h = (omega arith, refl)
 sized-in (suc k) (t ∷ u ∷ v ∷ bytes) h =
     let n = 256 * u + v in
     split (leb n (length bytes))
@@ -30,16 +30,19 @@ sized-in (suc k) (t ∷ u ∷ v ∷ bytes) h =
     let long = length-take-le n bytes (leb-true n (length bytes) e) in
     let left : suc (suc (suc (length bytes))) - (3 + n) ≡ length (drop n bytes) = omega (arith, length-drop n bytes) in
     rw (e, long, left) (omega (arith, leb-true n (length bytes) e), sized-in k (drop n bytes) (omega (arith, length-drop n bytes))))
-    (λ e. rw e (omega arith))
+    (λ e. rw e (omega arith, refl))
 
 pub sized : (bytes : List ℕ) → Sized (fieldsOf bytes) (length bytes)
 unfolding fieldsOf
 sized bytes = sized-in (length bytes) bytes (omega arith)
 
+pub cut-number : (bytes : List ℕ) {n : ℕ} → fieldsOf bytes ≡ cut n → n ≡ 8
+cut-number bytes e = (rw e at (sized bytes)) .1
+
 -- a record has more bytes than densities
 few : (fs : Fields) (m : ℕ) → Sized fs m → length (densities fs) ≤ m
 few end m h = omega arith
-few cut m h = omega arith
+few (cut n) m h = omega arith
 few (whole t p fs) m h =
     let rest = few fs (m - (3 + length p)) (h .1) in
     split (eqb t 2)

@@ -4,14 +4,9 @@ use Prim.Native.Nat.{ℕ}
 use mathlib.Core.Path.{_≡_, refl}
 use mathlib.Core.List.{List, [], _∷_, map}
 use Rattle.record.specs.Record.{end, whole, fieldsOf, fieldNo, recordNo}
+use Rattle.record.specs.Case12.{case12}
 
-abbrev name : List ℕ → List ℕ
-name rest = 1 ∷ 0 ∷ 1 ∷ 65 ∷ rest
-
--- case 12
-abbrev case12 : List ℕ
-case12 = name (2 ∷ 0 ∷ 9 ∷ 16 ∷ 16 ∷ 0 ∷ 20 ∷ 20 ∷ 0 ∷ 0 ∷ 0 ∷ 16 ∷ [])
-
+-- case 12: the name "A" and nine densities
 pub case12-fields : fieldsOf case12 ≡ whole 1 (65 ∷ []) (whole 2 (16 ∷ 16 ∷ 0 ∷ 20 ∷ 20 ∷ 0 ∷ 0 ∷ 0 ∷ 16 ∷ []) end)
 unfolding fieldsOf
 case12-fields = refl
@@ -20,7 +15,11 @@ pub case12-accepted : recordNo case12 (0 ∷ 0 ∷ 0 ∷ 0 ∷ 0 ∷ 0 ∷ 0 ∷
 unfolding fieldsOf fieldNo recordNo
 case12-accepted = refl
 
--- records that are refused ..
+-- the name of case 12, and what follows it
+abbrev name : List ℕ → List ℕ
+name rest = 1 ∷ 0 ∷ 1 ∷ 65 ∷ rest
+
+-- records that are refused
 abbrev bad : List (List ℕ)
 bad =
     (1 ∷ 0 ∷ []) ∷  -- a head is cut
@@ -35,7 +34,7 @@ bad =
     name (2 ∷ 0 ∷ 1 ∷ 16 ∷ []) ∷  -- no place for a density
     []
 
--- .. and their numbers, where no place is lent
+-- their numbers, where no place is lent
 pub refusals : map (λ r. recordNo r []) bad ≡ 8 ∷ 8 ∷ 9 ∷ 10 ∷ 10 ∷ 10 ∷ 11 ∷ 11 ∷ 11 ∷ 12 ∷ []
 unfolding fieldsOf fieldNo recordNo
 refusals = refl

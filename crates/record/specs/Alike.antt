@@ -10,13 +10,13 @@ use Rattle.record.specs.Record.{Fields, end, cut, whole, fieldsOf, densi
 -- the tags of the whole fields
 abbrev pub tags : Fields → List ℕ
 tags end = []
-tags cut = []
+tags (cut n) = []
 tags (whole tag payload fs) = tag ∷ tags fs
 
 -- their payloads' lengths
 abbrev pub lengths : Fields → List ℕ
 lengths end = []
-lengths cut = []
+lengths (cut n) = []
 lengths (whole tag payload fs) = length payload ∷ lengths fs
 
 -- the same length in bytes, name, tags and field lengths, and the same class at each density of the whole fields

@@ -2,3 +2,4 @@ pub mod Record
 pub mod Steps
 pub mod Promises
 pub mod Alike
+pub mod Case12

@@ -9,8 +9,8 @@ ghost use Rattle.record.specs.Steps.{BytePlace, firstAt};
 pub enum Field {
     // Nothing is left.
     End,
-    // Bytes are left that are no whole field.
-    Cut,
+    // Bytes are left that are no whole field: the question's number.
+    Cut(u32),
     // A whole field, with its payload from `start` up to `end`.
     Whole { tag: u8, start: usize, end: usize },
 }
@@ -32,11 +32,11 @@ pub fn field_at(bytes: &[u8], at: usize) -> Field
         return Field::End;
     }
     if left < 3 {
-        return Field::Cut;
+        return Field::Cut(8);
     }
     let length = length_of(bytes[at + 1], bytes[at + 2]);
     if left - 3 < length {
-        return Field::Cut;
+        return Field::Cut(8);
     }
     Field::Whole {
         tag: bytes[at],

@@ -1,7 +1,7 @@
 // The chart record reader.
-pub mod field;
-pub mod place;
-pub mod questions;
+mod field;
+mod place;
+mod questions;
 
 use crate::place::place_densities;
 use crate::questions::check_fields;

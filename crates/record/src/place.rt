@@ -30,7 +30,7 @@ pub fn place_densities(bytes: &[u8], densities: &mut [u32])
             Field::End => {
                 return;
             }
-            Field::Cut => {
+            Field::Cut(_) => {
                 return;
             }
             Field::Whole { tag, start, end } => {

@@ -3,7 +3,7 @@ use crate::field::Field;
 use crate::field::field_at;
 ghost use mathlib.Core.Path.{_≡_};
 ghost use Rattle.record.specs.Record.{isName, fieldNo};
-ghost use Rattle.record.specs.Steps.{FieldsChecked};
+ghost use Rattle.record.specs.Steps.{checkedFields, refusedFields};
 
 // The first no to the fields of a record, 0 where there is none; the number of densities and the name's length.
 pub struct Checked {
@@ -57,8 +57,9 @@ pub fn field_no(payload: &[u8], tag: u8, first: bool) -> u32
     0
 }
 
+// A refusal: all other numbers are 0.
 fn refused_by(no: u32) -> Checked
-    ensures { λ r. ⌜ r .refused ≡ no ⌝ }
+    ensures { λ r. ⌜ r ≡ refusedFields no ⌝ }
 {
     Checked {
         refused: no,
@@ -69,7 +70,7 @@ fn refused_by(no: u32) -> Checked
 
 // The first no to the fields of a record; where there is none, what they hold.
 pub fn check_fields(bytes: &[u8]) -> Checked
-    ensures { λ r. ⌜ FieldsChecked (now (bytes .entry)) r ⌝ }
+    ensures { λ r. ⌜ r ≡ checkedFields (now (bytes .entry)) ⌝ }
 {
     let mut at = 0;
     let mut measures = 0;
@@ -87,8 +88,8 @@ pub fn check_fields(bytes: &[u8]) -> Checked
                     name_length,
                 };
             }
-            Field::Cut => {
-                return refused_by(8);
+            Field::Cut(no) => {
+                return refused_by(no);
             }
             Field::Whole { tag, start, end } => {
                 let payload = &bytes[start..end];

@@ -5,3 +5,4 @@ pub mod Cutting
 pub mod Bound
 pub mod Charted
 pub mod Reading
+pub mod Case12

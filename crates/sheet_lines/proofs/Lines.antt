@@ -40,7 +40,7 @@ first-zero (suc n) k h = h
 
 name-line : (fs : Fields) → fieldsNo true fs ≡ 0 → OneLine (nameOf fs)
 name-line end h = none
-name-line cut h = none
+name-line (cut n) h = none
 name-line (whole t p fs) h =
     split (eqb t 1)
     (λ e. rw e (named-field t p e (first-zero (fieldNo true t p) (fieldsNo false fs) h)))

@@ -1,2 +1,3 @@
 pub mod Sheet
 pub mod Steps
+pub mod Case12

@@ -1,6 +1,6 @@
 // The bytes that the program `sheet` prints for the bytes that it is given.
-pub mod chart;
-pub mod put;
+mod chart;
+mod put;
 
 use crate::chart::put_chart;
 use crate::put::put_refusal;

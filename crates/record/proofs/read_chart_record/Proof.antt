@@ -12,7 +12,7 @@ refusal-requires : tie.Need-refusal-requires
 refusal-requires c κs = search needs
 
 returns : tie.Need-returns
-returns c = by-fields (c .before .before .before .check-fields .ensures) (c .refusal .ensures) (c .before .if1 .taken)
+returns c = by-fields _ (c .before .before .before .check-fields .ensures) (c .refusal .ensures) (c .before .if1 .taken)
 
 refusal-requires-2 : tie.Need-refusal-requires-2
 refusal-requires-2 c κs = search needs
@@ -20,7 +20,7 @@ refusal-requires-2 c κs = search needs
 returns-2 : tie.Need-returns-2
 returns-2 c =
     let h = c .before .before .before in
-    too-many (h .before .before .check-fields .ensures) (h .if1 .left) (c .refusal2 .ensures) (c .before .if2 .taken)
+    too-many _ (h .before .before .check-fields .ensures) (h .if1 .left) (c .refusal2 .ensures) (c .before .if2 .taken)
 
 refusal-requires-3 : tie.Need-refusal-requires-3
 refusal-requires-3 c κs = search needs
@@ -28,20 +28,23 @@ refusal-requires-3 c κs = search needs
 returns-3 : tie.Need-returns-3
 returns-3 c =
     let h = c .before .before .before in
-    no-place (h .before .before .before .before .check-fields .ensures) (h .before .before .if1 .left) (h .if2 .left) (c .refusal3 .ensures) (c .before .if3 .taken)
+    let t = h .before .before in
+    no-place _ (t .before .before .check-fields .ensures) (t .if1 .left) (h .if2 .left) (c .refusal3 .ensures) (c .before .if3 .taken)
 
 place-densities-requires : tie.Need-place-densities-requires
 place-densities-requires c κs =
     let h = c .before .before .before in
-    has-room (h .before .before .before .before .check-fields .ensures) (h .before .before .if1 .left) (h .if2 .left) (c .before .if3 .left)
+    has-room _ (h .before .before .before .before .check-fields .ensures) (h .before .before .if1 .left) (h .if2 .left) (c .before .if3 .left)
 
 same-length : tie.Need-same-length
 same-length c = search needs
 
 returns-4 : tie.Need-returns-4
 returns-4 c =
-    let h = c .before .before .before .before .before .before in
-    accepts (h .before .before .before .before .check-fields .ensures) (h .before .before .if1 .left) (h .if2 .left) (c .before .before .before .before .if3 .left) (c .before .before .place-densities .ensures)
+    let u = c .before .before .before .before in
+    let h = u .before .before in
+    let t = h .before .before in
+    accepts _ (t .before .before .check-fields .ensures) (t .if1 .left) (h .if2 .left) (u .if3 .left) (c .before .before .place-densities .ensures)
 
 pub read-chart-record-spec : {M : Type 1} → statement M
 read-chart-record-spec =

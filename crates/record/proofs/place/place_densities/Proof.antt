@@ -44,7 +44,7 @@ same-length-2 : tie.Need-same-length-2 Inv-loop μ-loop
 same-length-2 c = c .before .before .before .loop .inv .long
 
 returns-2 : tie.Need-returns-2 Inv-loop μ-loop
-returns-2 c = cut-off (c .before .before .before .loop .inv) (is-cut _ _ (sym (c .enum-told2 .given .1) ∙ c .before .before .field-at .ensures))
+returns-2 c = cut-off (c .before .before .before .loop .inv) (is-cut _ _ _ (sym (c .enum-told2 .given .1) ∙ c .before .before .field-at .ensures))
 
 enum-known-field : tie.Need-enum-known-field Inv-loop μ-loop
 enum-known-field c = search needs
@@ -68,8 +68,9 @@ loop-less c = omega (arith, field-found (c .before .before .before .before .befo
 
 loop-again : tie.Need-loop-again Inv-loop μ-loop
 loop-again c =
-    let f = c .before .before .before .before .before .before .before in
-    step (f .before .before .before .loop .inv) (field-found f) (c .before .before .before .before .before .if1 .taken) (c .before .before .put-payload .ensures)
+    let t = c .before .before .before .before .before in
+    let f = t .before .before in
+    step (f .before .before .before .loop .inv) (field-found f) (t .if1 .taken) (c .before .before .put-payload .ensures)
 
 loop-less-2 : tie.Need-loop-less-2 Inv-loop μ-loop
 loop-less-2 c = omega (arith, field-found (c .before .before))

@@ -17,10 +17,10 @@ abbrev μ-loop : tie.MeasureT-loop
 μ-loop bytes at₀ measures₀ name-length₀ at measures name-length = length bytes - at
 
 -- the whole field that was found
-field-found : (c : tie.After-field Inv-loop μ-loop)
-    → let f = c .field .given .0 in
+field-found : (c : tie.After-field2 Inv-loop μ-loop)
+    → let f = c .field2 .given .0 in
     WholeAt (c .before .before .before .before .before .args .bytes .now) (c .before .before .before .loop .at) (f .0) (f .1 .0) (f .1 .1 .0)
-field-found c = whole-at _ _ _ _ _ (sym (c .field .given .1) ∙ c .before .before .field-at .ensures)
+field-found c = whole-at _ _ _ _ _ (sym (c .field2 .given .1) ∙ c .before .before .field-at .ensures)
 
 loop-holds : tie.Need-loop-holds Inv-loop μ-loop
 loop-holds c = starts (c .before .args .bytes .now)
@@ -37,26 +37,27 @@ refused-by-requires c κs = search needs
 returns : tie.Need-returns Inv-loop μ-loop
 returns c =
     let m = c .before .before in
-    empty (m .before .before .before .loop .inv) (is-end _ _ (sym (m .enum-told .given .1) ∙ m .before .before .field-at .ensures)) (c .before .if1 .taken) (c .refused-by .ensures)
+    let none = is-end _ _ (sym (m .enum-told .given .1) ∙ m .before .before .field-at .ensures) in
+    empty (m .before .before .before .loop .inv) none (c .before .if1 .taken) (c .refused-by .ensures)
 
 returns-2 : tie.Need-returns-2 Inv-loop μ-loop
 returns-2 c =
     let m = c .before in
     done (m .before .before .before .loop .inv) (is-end _ _ (sym (m .enum-told .given .1) ∙ m .before .before .field-at .ensures)) (c .if1 .left)
 
-enum-told-2 : tie.Need-enum-told-2 Inv-loop μ-loop
-enum-told-2 c = search needs
+enum-known-field : tie.Need-enum-known-field Inv-loop μ-loop
+enum-known-field c = search needs
 
 refused-by-requires-2 : tie.Need-refused-by-requires-2 Inv-loop μ-loop
 refused-by-requires-2 c κs = search needs
 
 returns-3 : tie.Need-returns-3 Inv-loop μ-loop
 returns-3 c =
-    let m = c .before in
-    cut-off (m .before .before .before .loop .inv) (is-cut _ _ (sym (m .enum-told2 .given .1) ∙ m .before .before .field-at .ensures)) (c .refused-by2 .ensures)
+    let m = c .before .before in
+    cut-off (m .before .before .before .loop .inv) (is-cut _ _ _ (sym (m .field .given .1) ∙ m .before .before .field-at .ensures)) (c .refused-by2 .ensures)
 
-enum-known-field : tie.Need-enum-known-field Inv-loop μ-loop
-enum-known-field c = search needs
+enum-known-field-2 : tie.Need-enum-known-field-2 Inv-loop μ-loop
+enum-known-field-2 c = search needs
 
 sub-payload : tie.Need-sub-payload Inv-loop μ-loop
 sub-payload c = field-found (c .before) .order
@@ -111,10 +112,10 @@ check-fields-spec =
     refused-by-requires
     returns
     returns-2
-    enum-told-2
+    enum-known-field
     refused-by-requires-2
     returns-3
-    enum-known-field
+    enum-known-field-2
     sub-payload
     part-payload-start
     part-payload-end

@@ -18,13 +18,15 @@ returns-2 : tie.Need-returns-2
 unfolding fieldNo
 returns-2 c =
     let h = c .before .before in
-    simp (eq-eqb _ _ (h .before .if1 .taken), not-false (h .before .before .before .args .first) (h .if2 .left), sym (c .before .is-name .ensures) ∙ c .if3 .taken)
+    let first = not-false (h .before .before .before .args .first) (h .if2 .left) in
+    simp (eq-eqb _ _ (h .before .if1 .taken), first, sym (c .before .is-name .ensures) ∙ c .if3 .taken)
 
 returns-3 : tie.Need-returns-3
 unfolding fieldNo
 returns-3 c =
     let h = c .before .before in
-    simp (eq-eqb _ _ (h .before .if1 .taken), not-false (h .before .before .before .args .first) (h .if2 .left), sym (c .before .is-name .ensures) ∙ c .if3 .left)
+    let first = not-false (h .before .before .before .args .first) (h .if2 .left) in
+    simp (eq-eqb _ _ (h .before .if1 .taken), first, sym (c .before .is-name .ensures) ∙ c .if3 .left)
 
 returns-4 : tie.Need-returns-4
 unfolding fieldNo

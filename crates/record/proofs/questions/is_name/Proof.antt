@@ -32,7 +32,9 @@ shared-slice-read-if4 : tie.Need-shared-slice-read-if4 Inv-loop μ-loop
 shared-slice-read-if4 c = search needs
 
 returns-4 : tie.Need-returns-4 Inv-loop μ-loop
-returns-4 c = above (c .before .before .before .before .before .loop .inv) (c .before .before .before .before .loop-test .taken) (c .before .before .if3 .left) (c .if4 .taken)
+returns-4 c =
+    let t = c .before .before .before .before in
+    above (t .before .loop .inv) (t .loop-test .taken) (c .before .before .if3 .left) (c .if4 .taken)
 
 add-i : tie.Need-add-i Inv-loop μ-loop
 add-i c = search needs
@@ -41,7 +43,9 @@ loop-less : tie.Need-loop-less Inv-loop μ-loop
 loop-less c = search needs
 
 loop-again : tie.Need-loop-again Inv-loop μ-loop
-loop-again c = step (c .before .before .before .before .before .loop .inv) (c .before .before .before .before .loop-test .taken) (c .before .before .if3 .left) (c .if4 .left)
+loop-again c =
+    let t = c .before .before .before .before in
+    step (t .before .loop .inv) (t .loop-test .taken) (c .before .before .if3 .left) (c .if4 .left)
 
 returns-5 : tie.Need-returns-5 Inv-loop μ-loop
 returns-5 c = done (c .before .loop .inv) (c .loop-test .left)
