@@ -17,7 +17,7 @@ use Rattle.rules.specs.Calls.{stepAt, admitted}
 use Rattle.rules.specs.declared.ViewToken.{ViewToken}
 use Rattle.rules.specs.Slices.{paired}
 use Rattle.rules.proofs.Domain.{all-admitted}
-use Rattle.measures.specs.Scan.{RoomForTokens, FirstTokens}
+use Rattle.scan.specs.Scan.{RoomForTokens, FirstTokens}
 use Rattle.text_buffer.specs.MayFollow.{MayFollow}
 use Rattle.standard_text.specs.Standard.{glue, standardFrom, standardPart}
 use Rattle.text_buffer.specs.Parts.{Tokens, TokensBehind, PartWritten}
@@ -28,7 +28,7 @@ use Rattle.text_buffer.specs.declared.buffer.Left.{Left}
 use Rattle.breakdown.specs.declared.form.Form.{Form}
 use Rattle.standard_text.specs.declared.piece.Piece.{Piece}
 use Rattle.text_buffer.specs.declared.run.Run.{Run}
-use Rattle.measures.specs.declared.scan.Taken.{Taken}
+use Rattle.scan.specs.declared.Taken.{Taken}
 use Rattle.breakdown.proofs.Measures.{lastClass, behind-front, behind-back, behind-any, last-paired, paired-length}
 use Rattle.text_buffer.proofs.Reading.{behind-low, Stepped, stepped}
 

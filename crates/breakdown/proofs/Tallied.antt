@@ -10,8 +10,8 @@ use lib.Seq.{length-take-le}
 use Rattle.rules.specs.Chart.{classes, runs}
 use Rattle.rules.specs.Calls.{stepAt, admitted}
 use Rattle.rules.specs.declared.ViewToken.{ViewToken}
-use Rattle.measures.specs.Scan.{FirstTokens}
-use Rattle.measures.specs.declared.scan.Taken.{Taken}
+use Rattle.scan.specs.Scan.{FirstTokens}
+use Rattle.scan.specs.declared.Taken.{Taken}
 use Rattle.breakdown.specs.Forms.{textOf, openText, ActiveMeasures}
 use Rattle.breakdown.specs.Lengths.{FirstTally, TallyReady, TallyOn, endedLength}
 use Rattle.breakdown.specs.declared.form.Form.{Form}

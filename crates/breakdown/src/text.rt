@@ -1,7 +1,7 @@
 // The text of a form, part by part: from tokens in two slices, or from measures.
 use crate::form::Form;
-use measures::scan::tokens_into;
 use measures::tokens::token_at;
+use scan::tokens_into;
 use sn_text::sn::sn_part;
 use standard_text::piece::Piece;
 use standard_text::standard::dense_part;

@@ -3,11 +3,6 @@ pub mod Stretch
 pub mod Part
 pub mod Counted
 pub mod Tallied
-pub mod Classes
-pub mod Front
-pub mod ScanInvariant
-pub mod Adding
-pub mod Written
 pub mod Shared
 pub mod Same
 pub mod Answers

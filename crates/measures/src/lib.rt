@@ -3,6 +3,5 @@ pub mod active;
 pub mod alike;
 pub mod class;
 pub mod counts;
-pub mod scan;
 pub mod share;
 pub mod tokens;

@@ -24,10 +24,10 @@ use Rattle.rules.specs.declared.StreamBreakdownLevel.the-variants as Level
 use Rattle.rules.specs.declared.StreamCounts.{StreamCounts}
 use Rattle.rules.proofs.Bound.{text-most}
 use Rattle.rules.specs.Slices.{paired}
-use Rattle.measures.specs.Scan.{InSlices}
+use Rattle.scan.specs.Scan.{InSlices}
 use Rattle.measures.proofs.Part.{part-runs}
 use Rattle.measures.proofs.Counted.{tokens-few}
-use Rattle.measures.proofs.Written.{withinC, withinN, back}
+use Rattle.scan.proofs.Written.{withinC, withinN, back}
 use Rattle.text_buffer.specs.Buffer.{Added, Ready, goesOn}
 use Rattle.text_buffer.specs.Parts.{Tokens}
 use Rattle.breakdown.specs.Forms.{formOf, isTotal, textOf}

@@ -8,7 +8,7 @@ use breakdown::length::due_of_measures;
 use breakdown::text::text_of_tokens;
 use measures::active::active_range;
 use measures::counts::no_counts;
-use measures::scan::scan;
+use scan::scan;
 use text_buffer::buffer::Left;
 use text_buffer::buffer::put_buffer;
 use text_buffer::words::words;

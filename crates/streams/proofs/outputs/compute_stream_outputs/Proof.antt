@@ -2,7 +2,7 @@
 -- Assumes nothing.
 use mathlib.Core.Path.{_≡_, refl, sym}
 use lib.Seq.{length-take-le}
-use Rattle.measures.proofs.Written.{withinC, withinN}
+use Rattle.scan.proofs.Written.{withinC, withinN}
 use Rattle.streams.specs.Promises.{passNo}
 use Rattle.streams.proofs.Pass.{refused, Fitting, fitting, passed, tokened}
 use borrow.Author.Needs.{needs}

@@ -9,10 +9,10 @@ use lib.ListN.{length, take, drop, getD}
 use Rattle.number.specs.Questions.{filled}
 use Rattle.rules.specs.Chart.{classOf, classes, Token, token, class, len, runsFrom, runs, tokens, counts}
 use Rattle.rules.specs.Slices.{paired, total}
-use Rattle.measures.specs.declared.scan.Bounds.{Bounds}
-use Rattle.measures.specs.declared.scan.Pending.{Pending}
-use Rattle.measures.specs.declared.scan.ScanAnswer.{ScanAnswer}
-use Rattle.measures.specs.declared.scan.Taken.{Taken}
+use Rattle.scan.specs.declared.Bounds.{Bounds}
+use Rattle.scan.specs.declared.Pending.{Pending}
+use Rattle.scan.specs.declared.ScanAnswer.{ScanAnswer}
+use Rattle.scan.specs.declared.Taken.{Taken}
 
 -- densities of lo to lo + more are of class c
 pub record Bounded (c : ℕ) (r : Bounds) : Type 0 where

@@ -1,11 +1,11 @@
--- `measures::scan::class_at` meets its contract: the digit that is left is the class, and above 32 that of 32.
+-- `scan::class_at` meets its contract: the digit that is left is the class, and above 32 that of 32.
 -- Assumes nothing.
 use mathlib.Core.Logic.{⊎-elim}
 use borrow.Author.Needs.{needs}
 use native.Mathlib.Omega.{arith}
-use Rattle.measures.proofs.Classes.{up-to, above}
-use Rattle.measures.proofs.scan.class_at.Statement.{statement}
-use Rattle.measures.proofs.scan.class_at.Tie as tie
+use Rattle.scan.proofs.Classes.{up-to, above}
+use Rattle.scan.proofs.class_at.Statement.{statement}
+use Rattle.scan.proofs.class_at.Tie as tie
 
 mul-result : tie.Need-mul-result
 mul-result c = search needs

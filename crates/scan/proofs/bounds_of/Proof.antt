@@ -1,10 +1,10 @@
--- `measures::scan::bounds_of` meets its contract: one law for each class.
+-- `scan::bounds_of` meets its contract: one law for each class.
 -- Assumes nothing.
-use Rattle.measures.proofs.Classes.{fourth}
+use Rattle.scan.proofs.Classes.{fourth}
 use Rattle.rules.proofs.Steps.{class-0, class-1, class-2, class-3, class-4}
 use native.Mathlib.Omega.{arith}
-use Rattle.measures.proofs.scan.bounds_of.Statement.{statement}
-use Rattle.measures.proofs.scan.bounds_of.Tie as tie
+use Rattle.scan.proofs.bounds_of.Statement.{statement}
+use Rattle.scan.proofs.bounds_of.Tie as tie
 
 returns : tie.Need-returns
 returns c = rw (c .match .keys1) (record { fit = omega arith; same = λ d g h. class-0 d (omega arith) })

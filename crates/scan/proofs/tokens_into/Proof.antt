@@ -1,13 +1,13 @@
--- `measures::scan::tokens_into` meets its contract: by the laws of `Front`, over what `runs_into` left.
+-- `scan::tokens_into` meets its contract: by the laws of `Front`, over what `runs_into` left.
 -- Assumes nothing.
 use Prim.Native.Nat.{_-_, _≤_}
 use mathlib.Core.Logic.{inr}
 use native.Mathlib.Omega.{arith}
 use lib.ListN.{getD}
 use borrow.Author.Needs.{needs}
-use Rattle.measures.proofs.Front.{some, kept, held, fewer}
-use Rattle.measures.proofs.scan.tokens_into.Statement.{statement}
-use Rattle.measures.proofs.scan.tokens_into.Tie as tie
+use Rattle.scan.proofs.Front.{some, kept, held, fewer}
+use Rattle.scan.proofs.tokens_into.Statement.{statement}
+use Rattle.scan.proofs.tokens_into.Tie as tie
 
 -- the last length is within the measures taken
 short : (c : tie.After-slice-known6) →

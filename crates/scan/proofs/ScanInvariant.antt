@@ -16,12 +16,12 @@ use Rattle.rules.proofs.Shape.{class-below}
 use Rattle.rules.proofs.Steps.{run-longer, run-ended, map-drop}
 use Rattle.rules.specs.Slices.{paired, total}
 use Rattle.number.specs.Questions.{filled}
-use Rattle.measures.specs.Scan.{OfClass, RoomForRuns, ScanInvariant, FirstRuns}
+use Rattle.scan.specs.Scan.{OfClass, RoomForRuns, ScanInvariant, FirstRuns}
 use Rattle.measures.proofs.Part.{class-of-place}
 use Rattle.measures.proofs.Counted.{paired-runs}
 use Rattle.rules.proofs.Cost.{total-append}
-use Rattle.measures.proofs.Front.{some-run, after, paired-front}
-use Rattle.measures.proofs.Written.{all-first}
+use Rattle.scan.proofs.Front.{some-run, after, paired-front}
+use Rattle.scan.proofs.Written.{all-first}
 
 -- one more element written, and the last one written anew
 push : (old xs : List ℕ) (v : ℕ) → length xs < length old → set (filled old xs) (length xs) v ≡ filled old (xs ++ (v ∷ []))

@@ -1,9 +1,9 @@
--- `measures::scan::run_on` meets its contract: a stretch within the bounds of a class is of that class.
+-- `scan::run_on` meets its contract: a stretch within the bounds of a class is of that class.
 -- Assumes nothing.
 use native.Mathlib.Omega.{arith}
 use borrow.Author.Needs.{needs}
-use Rattle.measures.proofs.scan.run_on.Statement.{statement}
-use Rattle.measures.proofs.scan.run_on.Tie as tie
+use Rattle.scan.proofs.run_on.Statement.{statement}
+use Rattle.scan.proofs.run_on.Tie as tie
 
 returns : tie.Need-returns
 returns c = record { onward = omega arith; within = omega arith; each = λ i g h. absurd (omega arith) }

@@ -1,12 +1,12 @@
--- `measures::scan::add_up` meets its contract: the loop's invariant and its steps are `Adding`'s.
+-- `scan::add_up` meets its contract: the loop's invariant and its steps are `Adding`'s.
 -- Assumes nothing.
 use Prim.Native.Nat.{_-_, _≤_}
 use lib.ListN.{length, getD}
-use Rattle.measures.proofs.Adding.{Adding, starts, small, low, added, finished}
+use Rattle.scan.proofs.Adding.{Adding, starts, small, low, added, finished}
 use native.Mathlib.Omega.{arith}
 use borrow.Author.Needs.{needs}
-use Rattle.measures.proofs.scan.add_up.Statement.{statement}
-use Rattle.measures.proofs.scan.add_up.Tie as tie
+use Rattle.scan.proofs.add_up.Statement.{statement}
+use Rattle.scan.proofs.add_up.Tie as tie
 
 abbrev Inv-loop : tie.InvT-loop
 Inv-loop cs ns a₀ b₀ c₀ d₀ e₀ f₀ i₀ a b c d e f i = Adding cs ns a b c d e f i

@@ -1,15 +1,15 @@
--- `measures::scan::scan` meets its contract.
+-- `scan::scan` meets its contract.
 -- Assumes nothing.
 use mathlib.Core.Path.{refl, sym, ap, _∙_}
 use mathlib.Core.Logic.{inl}
 use native.Mathlib.Omega.{arith}
 use lib.Seq.{length-take-le}
 use borrow.Author.Needs.{needs}
 use Rattle.measures.specs.Sums.{sumsOf}
 use Rattle.measures.proofs.Part.{part-within, part-runs}
-use Rattle.measures.proofs.Written.{withinC, withinN, back, pairs}
-use Rattle.measures.proofs.scan.scan.Statement.{statement}
-use Rattle.measures.proofs.scan.scan.Tie as tie
+use Rattle.scan.proofs.Written.{withinC, withinN, back, pairs}
+use Rattle.scan.proofs.scan.Statement.{statement}
+use Rattle.scan.proofs.scan.Tie as tie
 
 lead-in-requires : tie.Need-lead-in-requires
 lead-in-requires c κs = search needs

@@ -17,9 +17,9 @@ use Rattle.rules.specs.Chart.{Token, token, class, len, classOf, classes, runsF
 use Rattle.rules.specs.Slices.{paired, total}
 use Rattle.rules.proofs.Cost.{total-runs, total-append}
 use Rattle.rules.proofs.Steps.{map-drop}
-use Rattle.measures.specs.Scan.{FirstRuns, RoomForTokens, FirstTokens}
-use Rattle.measures.specs.declared.scan.Taken.{Taken}
+use Rattle.scan.specs.Scan.{FirstRuns, RoomForTokens, FirstTokens}
+use Rattle.scan.specs.declared.Taken.{Taken}
 use Rattle.measures.proofs.Part.{class-of-place}
 
 pub some-run : (c n : ℕ) (cs : List ℕ) → 0 < length (runsFrom c n cs)
 some-run c n [] = omega arith

@@ -1,4 +1,4 @@
--- `measures::scan::runs_into` meets its contract: the loop's invariant and its steps are `ScanInvariant`'s. A chain of `.before` leads from a
+-- `scan::runs_into` meets its contract: the loop's invariant and its steps are `ScanInvariant`'s. A chain of `.before` leads from a
 -- place of the code to an earlier one.
 -- Assumes nothing.
 use Prim.Native.Nat.{ℕ, _+_, _-_, _≤_}
@@ -7,10 +7,10 @@ use mathlib.Core.List.{List}
 use native.Mathlib.Omega.{arith}
 use lib.ListN.{length, set}
 use borrow.Author.Needs.{needs}
-use Rattle.measures.specs.Scan.{ScanInvariant, Steps}
-use Rattle.measures.proofs.ScanInvariant.{empty, starts, room, skipped, places, longC, longN, stopped, finished}
-use Rattle.measures.proofs.scan.runs_into.Statement.{statement}
-use Rattle.measures.proofs.scan.runs_into.Tie as tie
+use Rattle.scan.specs.Scan.{ScanInvariant, Steps}
+use Rattle.scan.proofs.ScanInvariant.{empty, starts, room, skipped, places, longC, longN, stopped, finished}
+use Rattle.scan.proofs.runs_into.Statement.{statement}
+use Rattle.scan.proofs.runs_into.Tie as tie
 
 -- the invariant speaks of what the slices hold where the loop begins, and not where the function does: so it says that what is so there stays so
 abbrev Inv-loop : tie.InvT-loop

@@ -1,4 +1,4 @@
--- `measures::scan::steps_into` meets its contract: the loop's invariant and its steps are `ScanInvariant`'s.
+-- `scan::steps_into` meets its contract: the loop's invariant and its steps are `ScanInvariant`'s.
 -- Assumes nothing.
 use Prim.Native.Nat.{ℕ, _+_, _-_, _≤_, _<_}
 use mathlib.Core.Path.{_≡_, _∙_, sym}
@@ -8,10 +8,10 @@ use native.Mathlib.Nat.{add-zero}
 use native.Mathlib.Omega.{arith}
 use lib.ListN.{length, set, length-set}
 use borrow.Author.Needs.{needs}
-use Rattle.measures.specs.Scan.{ScanInvariant, Onward}
-use Rattle.measures.proofs.ScanInvariant.{same, other, places, longC, longN}
-use Rattle.measures.proofs.scan.steps_into.Statement.{statement}
-use Rattle.measures.proofs.scan.steps_into.Tie as tie
+use Rattle.scan.specs.Scan.{ScanInvariant, Onward}
+use Rattle.scan.proofs.ScanInvariant.{same, other, places, longC, longN}
+use Rattle.scan.proofs.steps_into.Statement.{statement}
+use Rattle.scan.proofs.steps_into.Tie as tie
 
 abbrev Inv-loop : tie.InvT-loop
 Inv-loop m from count cs₀ ns₀ c₀ n₀ k₀ t₀ cs ns c n k t = Onward m from t cs₀ cs ns₀ ns c₀ n₀ k₀ c n k × (t ≤ count) × (k ≤ k₀ + t)
