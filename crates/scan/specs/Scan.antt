@@ -1,13 +1,12 @@
 -- What the scan into tokens and the functions below it ask and promise.
 -- Assumes nothing.
-use Prim.Native.Nat.{ℕ, zero, suc, _+_, _-_, _≤_, _<_, _^_}
+use Prim.Native.Nat.{ℕ, _+_, _-_, _≤_, _<_, _^_}
 use mathlib.Core.Path.{_≡_}
-use mathlib.Core.Bool.{false}
 use mathlib.Core.Logic.{_≢_, _⊎_}
 use mathlib.Core.List.{List, [], _∷_, _++_, map}
 use lib.ListN.{length, take, drop, getD}
 use Rattle.number.specs.Questions.{filled}
-use Rattle.rules.specs.Chart.{classOf, classes, Token, token, class, len, runsFrom, runs, tokens, counts}
+use Rattle.rules.specs.Chart.{classOf, classes, Token, class, len, runsFrom, runs, tokens, counts}
 use Rattle.rules.specs.Slices.{paired, total}
 use Rattle.scan.specs.declared.Bounds.{Bounds}
 use Rattle.scan.specs.declared.Pending.{Pending}
