@@ -33,12 +33,12 @@ first-apart (n ∷ ns) h = parted-each n ns
 
 -- the loop of `put_numbers` as lists: the first number is put before it, the others up to i by it
 module _ (ns old : List ℕ) (at : ℕ) where
-  pub record Putting (out : List ℕ) (place i : ℕ) : Type 0 where
+  pub record Numbering (out : List ℕ) (place i : ℕ) : Type 0 where
     pub within : i ≤ length ns
     pub room : Room old at (eachAfterSpace (drop 1 ns))
     pub going : Text.Reached old at (eachAfterSpace (drop 1 ns)) (eachAfterSpace (drop i ns)) out place
 
-module _ {ns old : List ℕ} {at : ℕ} {out : List ℕ} {place i : ℕ} (g : Putting ns old at out place i) where
+module _ {ns old : List ℕ} {at : ℕ} {out : List ℕ} {place i : ℕ} (g : Numbering ns old at out place i) where
   pub put-long : length out ≡ length old
   put-long = Text.long (g .going)
 
@@ -52,7 +52,7 @@ module _ {ns old : List ℕ} {at : ℕ} {out : List ℕ} {place i : ℕ} (g : Pu
     pub next-room : Room out place next
     next-room = Text.room-part (g .going) _ _ next-apart (g .room)
 
-    pub put-next : {new : List ℕ} {r : ℕ} → Wrote out new place next r → Putting ns old at new r (i + 1)
+    pub put-next : {new : List ℕ} {r : ℕ} → Wrote out new place next r → Numbering ns old at new r (i + 1)
     put-next w = record { within = omega arith; room = g .room; going = Text.on (g .going) _ _ next-apart w }
 
 module _ {ns old : List ℕ} {at : ℕ} (h : NumbersRoom old at ns) where
@@ -63,10 +63,10 @@ module _ {ns old : List ℕ} {at : ℕ} (h : NumbersRoom old at ns) where
   first-room = room-first _ _ all-room
 
   module _ {mid : List ℕ} {next : ℕ} (w : Wrote old mid at (digits (getD ns 0 0)) next) where
-    pub put-first : Putting ns mid next mid next 1
+    pub put-first : Numbering ns mid next mid next 1
     put-first = record { within = h .some; room = room-next _ _ w all-room; going = Text.starts }
 
-    pub put-all : {new : List ℕ} {place i : ℕ} → Putting ns mid next new place i → length ns ≤ i → Wrote old new at (partedBySpaces ns) place
+    pub put-all : {new : List ℕ} {place i : ℕ} → Numbering ns mid next new place i → length ns ≤ i → Wrote old new at (partedBySpaces ns) place
     put-all {i = i} g e = rw (first-apart ns (h .some)) (wrote _ _ w (Text.finished (g .going) (rw (drop-of-length-le ns {i = i} e))))
 
 -- the numbers of the counts, in their line

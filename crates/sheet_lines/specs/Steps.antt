@@ -36,6 +36,7 @@ pub record NumbersRoom (out : List ℕ) (at : ℕ) (ns : List ℕ) : Type 0 wher
   pub some : 1 ≤ length ns
   pub room : Room out at (partedBySpaces ns)
 
+-- the sum of some numbers
 abbrev pub sum : List ℕ → ℕ
 sum [] = 0
 sum (n ∷ ns) = n + sum ns
@@ -54,6 +55,7 @@ pub record Cuts (out : List ℕ) (at : ℕ) (texts ns : List ℕ) : Type 0 where
 abbrev pub allLines : List ℕ → StreamCounts → List ℕ → List ℕ → List ℕ → List ℕ
 allLines name c texts ns total = line name ++ (line (countsLine c) ++ (cutLines texts 0 ns ++ line total))
 
+-- texts of these lengths, and room for all lines
 pub record LinesRoom (out name : List ℕ) (c : StreamCounts) (texts ns total : List ℕ) : Type 0 where
   pub within : sum ns ≤ length texts
   pub room : Room out 0 (allLines name c texts ns total)

@@ -11,6 +11,7 @@ ghost use Rattle.rules.specs.Chart.{countNumbers};
 ghost use Rattle.sheet_lines.specs.Sheet.{line, partedBySpaces, countsLine};
 ghost use Rattle.sheet_lines.specs.Steps.{AtStart, Roomy, NumbersRoom, refusalLine, cutLines, Cuts};
 
+// A text as a line.
 pub fn put_line(out: &mut [u8], at: usize, text: &[u8]) -> usize
     requires { ⌜ Room (now out) at (line (now text)) ⌝ }
     ensures { λ r. ⌜ Wrote (now (out .entry)) (now (out .exit)) at (line (now (text .entry))) r ⌝ }

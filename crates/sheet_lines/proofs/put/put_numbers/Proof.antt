@@ -6,13 +6,13 @@ use mathlib.Core.List.{[]}
 use native.Mathlib.Omega.{arith}
 use lib.ListN.{length}
 use Rattle.number.proofs.Place.{wrote-length}
-use Rattle.sheet_lines.proofs.Numbers.{Putting, put-long, next-room, put-next, first-room, put-first, put-all}
+use Rattle.sheet_lines.proofs.Numbers.{Numbering, put-long, next-room, put-next, first-room, put-first, put-all}
 use borrow.Author.Needs.{needs}
 use Rattle.sheet_lines.proofs.put.put_numbers.Statement.{statement}
 use Rattle.sheet_lines.proofs.put.put_numbers.Tie as tie
 
 abbrev Inv-loop : tie.InvT-loop
-Inv-loop out₀ at numbers place₀ i₀ out place i = Putting numbers out₀ place₀ out place i
+Inv-loop out₀ at numbers place₀ i₀ out place i = Numbering numbers out₀ place₀ out place i
 
 abbrev μ-loop : tie.MeasureT-loop
 μ-loop out₀ at numbers place₀ i₀ out place i = length numbers - i
