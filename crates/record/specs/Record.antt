@@ -26,6 +26,7 @@ fieldsIn (suc k) (tag ∷ high ∷ low ∷ bytes) =
     let field = whole tag (take n bytes) (fieldsIn k (drop n bytes)) in
     cond (leb n (length bytes)) field (cut 8)
 
+-- Chart record: its fields
 unfoldable pub fieldsOf : List ℕ → Fields
 fieldsOf bytes = fieldsIn (length bytes) bytes
 

@@ -107,15 +107,21 @@ module _ (name m : List ℕ) where
   abbrev lines : List ℕ
   lines = line name ++ (line (countsLine (counts (classes m))) ++ (textLines passKinds m ++ line (text (standard Level.Total) m)))
 
-  right-lines : (rest : List ℕ) {c : StreamCounts} {texts ns total : List ℕ} → c ≡ counts (classes m) → texts ≡ endToEnd passKinds m ++ rest → ns ≡ lengthsOf passKinds m
+  right-lines : (rest : List ℕ) {c : StreamCounts} {texts ns total : List ℕ}
+      → c ≡ counts (classes m) → texts ≡ endToEnd passKinds m ++ rest → ns ≡ lengthsOf passKinds m
       → total ≡ text (standard Level.Total) m → allLines name c texts ns total ≡ lines
   right-lines rest c t n l = rw (c, t, n, l, cut-all passKinds m rest)
 
-  lines-short : length name ≤ 64 → length m ≤ 1048576 → length (endToEnd passKinds m) ≤ 65536 → length (text (standard Level.Total) m) ≤ 32 → length lines ≤ 66048
+  lines-short : length name ≤ 64 → length m ≤ 1048576 → length (endToEnd passKinds m) ≤ 65536 → length (text (standard Level.Total) m) ≤ 32
+      → length lines ≤ 66048
   lines-short a b d e =
       let total = text (standard Level.Total) m in
+      let texts = textLines passKinds m in
       let counted = line (countsLine (counts (classes m))) in
-      omega (arith, length-append (line name) (counted ++ (textLines passKinds m ++ line total)), length-append name (10 ∷ []), length-append counted (textLines passKinds m ++ line total), counts-short m b, length-append (textLines passKinds m) (line total), lines-length m passKinds, length-append total (10 ∷ []))
+      let first = length-append (line name) (counted ++ (texts ++ line total)) in
+      let second = length-append counted (texts ++ line total) in
+      let third = length-append texts (line total) in
+      omega (arith, first, length-append name (10 ∷ []), second, counts-short m b, third, lines-length m passKinds, length-append total (10 ∷ []))
 
 module _ {m cs ns texts : List ℕ} {r : StreamOutputs} (p : Outputs m places cs places ns textBytes texts r) (yes : r .refused ≡ 0) where
   passed : passNo m places places textBytes ≡ 0
@@ -158,10 +164,11 @@ module _ {m cs ns texts : List ℕ} {r : StreamOutputs} (p : Outputs m places cs
 
       pub lines-room : {out : List ℕ} → NameRoom name out → LinesRoom out name (r .counts) texts (r .lengths) (take (w .length) total)
       lines-room h =
+          let all = endToEnd passKinds m in
           let room = pass-room m places places textBytes 65536 (length-replicate {A = ℕ} 65536 0) passed in
           let short = lines-short name m (h .short) (room .0) (room .1) (total-room m [] [] totalBytes 32 (length-replicate {A = ℕ} 32 0) totalled) in
           record {
-            within = omega (arith, ap sum lengths-are, sum-lengths m passKinds, ap {B = ℕ} length texts-are, length-append (endToEnd passKinds m) (drop (length (endToEnd passKinds m)) textBytes));
+            within = omega (arith, ap sum lengths-are, sum-lengths m passKinds, ap {B = ℕ} length texts-are, length-append all (drop (length all) textBytes));
             room = record { fits = omega (arith, ap {B = ℕ} length lines-are, short, h .most) };
           }
 
@@ -169,5 +176,6 @@ module _ {m cs ns texts : List ℕ} {r : StreamOutputs} (p : Outputs m places cs
       unfolding chartBytes textsNo
       chart-lines = rw (passed, totalled) (ap (λ (l : List ℕ). line name ++ (line (countsLine (counts (classes m))) ++ l)) (seven-lines m))
 
-      pub printed : {out new : List ℕ} {s : ℕ} → AtStart out new (allLines name (r .counts) texts (r .lengths) (take (w .length) total)) s → AtStart out new (chartBytes name m) s
+      pub printed : {out new : List ℕ} {s : ℕ}
+          → AtStart out new (allLines name (r .counts) texts (r .lengths) (take (w .length) total)) s → AtStart out new (chartBytes name m) s
       printed h = rw chart-lines (rw lines-are at h)

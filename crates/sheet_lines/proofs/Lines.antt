@@ -16,7 +16,8 @@ use Rattle.rules.specs.declared.StreamCounts.{StreamCounts}
 use Rattle.rules.proofs.Lines.{OneLine, digits-line}
 use Rattle.record.specs.Record.{Fields, end, cut, whole, fieldsOf, printable, isName, fieldNo, fieldsNo, nameOf, recordNo}
 use Rattle.streams.specs.Promises.{passNo}
-use Rattle.sheet_lines.specs.Sheet.{inputFits, places, textBytes, totalBytes, firstRefusal, chartOf, totalNo, sheetNo, line, partedBySpaces, countsLine, sheetKinds, textLines, sheetBytes}
+use Rattle.sheet_lines.specs.Sheet.{inputFits, places, textBytes, totalBytes, firstRefusal, chartOf, totalNo, sheetNo}
+use Rattle.sheet_lines.specs.Sheet.{line, partedBySpaces, countsLine, sheetKinds, textLines, sheetBytes}
 
 -- ---- the name
 
@@ -66,12 +67,16 @@ second-zero (suc x) y z w h = absurd (omega (arith, h))
 module _ (input : List ℕ) (yes : sheetNo input ≡ 0) where
   record-zero : recordNo input places ≡ 0
   unfolding sheetNo
-  record-zero = second-zero (firstNo (inputFits input ∷ [])) (recordNo input places) (passNo (chartOf input) places places textBytes) (totalNo (chartOf input) totalBytes) yes
+  record-zero =
+      let m = chartOf input in
+      second-zero (firstNo (inputFits input ∷ [])) (recordNo input places) (passNo m places places textBytes) (totalNo m totalBytes) yes
 
   pub one-line-name : OneLine (nameOf (fieldsOf input))
   unfolding recordNo
   one-line-name = name-line (fieldsOf input) (first-zero (fieldsNo true (fieldsOf input)) _ record-zero)
 
-  pub sheet-lines : sheetBytes input ≡ line (nameOf (fieldsOf input)) ++ (line (countsLine (counts (classes (chartOf input)))) ++ textLines sheetKinds (chartOf input))
+  pub sheet-lines :
+      sheetBytes input
+      ≡ line (nameOf (fieldsOf input)) ++ (line (countsLine (counts (classes (chartOf input)))) ++ textLines sheetKinds (chartOf input))
   unfolding sheetBytes
   sheet-lines = rw yes

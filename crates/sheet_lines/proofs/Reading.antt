@@ -84,7 +84,8 @@ module _ {input new : List ℕ} {r : RecordAnswer} (p : ReadRecord input places 
     unfolding sheetBytes sheetNo chartBytes textsNo
     sheet-chart short = rw (le-leb (length input) 16384 short, read)
 
-    pub sheet-printed : length input ≤ 16384 → {out out′ : List ℕ} {s : ℕ} → AtStart out out′ (chartBytes nameRead (take (r .measures) new)) s → AtStart out out′ (sheetBytes input) s
+    pub sheet-printed : length input ≤ 16384 → {out out′ : List ℕ} {s : ℕ}
+        → AtStart out out′ (chartBytes nameRead (take (r .measures) new)) s → AtStart out out′ (sheetBytes input) s
     sheet-printed short h = rw (sheet-chart short) (rw (name-is, chart-is) at h)
 
 -- the bytes to print are bytes of the array

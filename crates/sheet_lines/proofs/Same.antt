@@ -17,7 +17,8 @@ use Rattle.rules.proofs.Demand.{same-length, same-text, same-texts}
 use Rattle.record.specs.Alike.{Alike}
 use Rattle.record.proofs.Same.{same-no}
 use Rattle.streams.specs.Promises.{passNo}
-use Rattle.sheet_lines.specs.Sheet.{places, textBytes, totalBytes, firstRefusal, chartOf, totalNo, line, countsLine, sheetNo, sheetKinds, textLines, sheetBytes}
+use Rattle.sheet_lines.specs.Sheet.{places, textBytes, totalBytes, firstRefusal, chartOf, totalNo, sheetNo}
+use Rattle.sheet_lines.specs.Sheet.{line, countsLine, sheetKinds, textLines, sheetBytes}
 
 same-lines : (ks : List Kind) (a b : List ℕ) → classes a ≡ classes b → textLines ks a ≡ textLines ks b
 same-lines [] a b e = refl
@@ -50,5 +51,6 @@ module _ (a b : List ℕ) (s : Alike a b) where
       three (same-number) (s .names) (ap counts e) (same-lines sheetKinds (chartOf a) (chartOf b) e)
     where
       three : {n n′ : ℕ} {x x′ : List ℕ} {c c′ : StreamCounts} {z z′ : List ℕ} → n ≡ n′ → x ≡ x′ → c ≡ c′ → z ≡ z′
-          → accepted n (line x ++ (line (countsLine c) ++ z)) (line (bytes "refused " ++ digits n)) ≡ accepted n′ (line x′ ++ (line (countsLine c′) ++ z′)) (line (bytes "refused " ++ digits n′))
+          → accepted n (line x ++ (line (countsLine c) ++ z)) (line (bytes "refused " ++ digits n))
+          ≡ accepted n′ (line x′ ++ (line (countsLine c′) ++ z′)) (line (bytes "refused " ++ digits n′))
       three p q r t = rw (p, q, r, t)

@@ -75,6 +75,7 @@ countsLine c = partedBySpaces (countNumbers c)
 abbrev pub sheetKinds : List Kind
 sheetKinds = passKinds ++ (standard Level.Total ∷ [])
 
+-- the texts of some kinds, each as a line
 abbrev pub textLines : List Kind → List ℕ → List ℕ
 textLines [] m = []
 textLines (k ∷ ks) m = line (text k m) ++ textLines ks m

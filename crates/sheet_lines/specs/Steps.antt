@@ -11,7 +11,7 @@ use Rattle.rules.specs.Bytes.{bytes}
 use Rattle.rules.specs.Chart.{classes, counts}
 use Rattle.rules.specs.declared.StreamCounts.{StreamCounts}
 use Rattle.streams.specs.Promises.{passNo}
-use Rattle.sheet_lines.specs.Sheet.{places, textBytes, totalBytes, firstRefusal, totalNo, line, countsLine, sheetKinds, textLines}
+use Rattle.sheet_lines.specs.Sheet.{places, textBytes, totalBytes, firstRefusal, totalNo, line, partedBySpaces, countsLine, sheetKinds, textLines}
 
 -- the bytes xs at the slice's start, later places as they were; r is their number
 pub record AtStart (old new xs : List ℕ) (r : ℕ) : Type 0 where
@@ -31,11 +31,12 @@ pub record NameRoom (name out : List ℕ) : Type 0 where
 abbrev pub refusalLine : ℕ → List ℕ
 refusalLine n = line (bytes "refused " ++ digits n)
 
--- numbers, each behind a space
-abbrev pub eachAfterSpace : List ℕ → List ℕ
-eachAfterSpace [] = []
-eachAfterSpace (n ∷ ns) = (bytes " " ++ digits n) ++ eachAfterSpace ns
+-- some numbers, and room for them
+pub record NumbersRoom (out : List ℕ) (at : ℕ) (ns : List ℕ) : Type 0 where
+  pub some : 1 ≤ length ns
+  pub room : Room out at (partedBySpaces ns)
 
+-- the sum of some numbers
 abbrev pub sum : List ℕ → ℕ
 sum [] = 0
 sum (n ∷ ns) = n + sum ns
@@ -54,6 +55,7 @@ pub record Cuts (out : List ℕ) (at : ℕ) (texts ns : List ℕ) : Type 0 where
 abbrev pub allLines : List ℕ → StreamCounts → List ℕ → List ℕ → List ℕ → List ℕ
 allLines name c texts ns total = line name ++ (line (countsLine c) ++ (cutLines texts 0 ns ++ line total))
 
+-- texts of these lengths, and room for all lines
 pub record LinesRoom (out name : List ℕ) (c : StreamCounts) (texts ns total : List ℕ) : Type 0 where
   pub within : sum ns ≤ length texts
   pub room : Room out 0 (allLines name c texts ns total)

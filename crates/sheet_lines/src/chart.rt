@@ -19,7 +19,8 @@ fn put_lines(
     total: &[u8],
 ) -> usize
     requires { ⌜ LinesRoom (now out) (now name) counts (now texts) (now lengths) (now total) ⌝ }
-    ensures { λ r. ⌜ AtStart (now (out .entry)) (now (out .exit)) (allLines (now (name .entry)) counts (now (texts .entry)) (now (lengths .entry)) (now (total .entry))) r ⌝ }
+    ensures { λ r. ⌜ AtStart (now (out .entry)) (now (out .exit))
+        (allLines (now (name .entry)) counts (now (texts .entry)) (now (lengths .entry)) (now (total .entry))) r ⌝ }
 {
     let a = put_line(out, 0, name);
     let b = put_counts(out, a, counts);

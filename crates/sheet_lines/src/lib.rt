@@ -34,6 +34,7 @@ fn put_sheet(input: &[u8], out: &mut [u8]) -> usize
     put_chart(&input[start..end], &densities[..measures], out)
 }
 
+// The bytes that `sheet` prints for `input`.
 pub fn print_sheet(input: &[u8]) -> Sheet
     ensures { λ r. ⌜ Printed (now (input .entry)) r ⌝ }
 {

@@ -3,12 +3,15 @@ use number::put_u64;
 use rules::StreamCounts;
 use text_buffer::put::put_bytes;
 ghost use Rattle.number.specs.Place.{Room, Wrote};
+ghost use mathlib.Core.Path.{_≡_};
 ghost use mathlib.Core.List.{_++_};
 ghost use Rattle.number.specs.Digits.{digits};
 ghost use Rattle.rules.specs.Bytes.{bytes};
-ghost use Rattle.sheet_lines.specs.Sheet.{line, countsLine};
-ghost use Rattle.sheet_lines.specs.Steps.{AtStart, Roomy, refusalLine, eachAfterSpace, cutLines, Cuts};
+ghost use Rattle.rules.specs.Chart.{countNumbers};
+ghost use Rattle.sheet_lines.specs.Sheet.{line, partedBySpaces, countsLine};
+ghost use Rattle.sheet_lines.specs.Steps.{AtStart, Roomy, NumbersRoom, refusalLine, cutLines, Cuts};
 
+// A text as a line.
 pub fn put_line(out: &mut [u8], at: usize, text: &[u8]) -> usize
     requires { ⌜ Room (now out) at (line (now text)) ⌝ }
     ensures { λ r. ⌜ Wrote (now (out .entry)) (now (out .exit)) at (line (now (text .entry))) r ⌝ }
@@ -26,13 +29,13 @@ fn put_spaced(out: &mut [u8], at: usize, n: u32) -> usize
     put_u64(out, a, n as u64)
 }
 
-// Numbers, each behind a space.
+// Numbers parted by one space.
 fn put_numbers(out: &mut [u8], at: usize, numbers: &[u32]) -> usize
-    requires { ⌜ Room (now out) at (eachAfterSpace (now numbers)) ⌝ }
-    ensures { λ r. ⌜ Wrote (now (out .entry)) (now (out .exit)) at (eachAfterSpace (now (numbers .entry))) r ⌝ }
+    requires { ⌜ NumbersRoom (now out) at (now numbers) ⌝ }
+    ensures { λ r. ⌜ Wrote (now (out .entry)) (now (out .exit)) at (partedBySpaces (now (numbers .entry))) r ⌝ }
 {
-    let mut place = at;
-    let mut i: usize = 0;
+    let mut place = put_u64(out, at, numbers[0] as u64);
+    let mut i: usize = 1;
     while i < numbers.len() {
         place = put_spaced(out, place, numbers[i]);
         i += 1;
@@ -40,21 +43,28 @@ fn put_numbers(out: &mut [u8], at: usize, numbers: &[u32]) -> usize
     place
 }
 
-// The line of the counts.
-pub fn put_counts(out: &mut [u8], at: usize, counts: StreamCounts) -> usize
-    requires { ⌜ Room (now out) at (line (countsLine counts)) ⌝ }
-    ensures { λ r. ⌜ Wrote (now (out .entry)) (now (out .exit)) at (line (countsLine counts)) r ⌝ }
+// The counts in the order of their line.
+fn count_numbers(counts: StreamCounts) -> [u32; 6]
+    ensures { λ r. ⌜ r ≡ countNumbers counts ⌝ }
 {
-    let others = [
+    [
+        counts.run16_streams,
         counts.run20_streams,
         counts.run24_streams,
         counts.run32_streams,
         counts.total_breaks,
         counts.sn_breaks,
-    ];
-    let a = put_u64(out, at, counts.run16_streams as u64);
-    let b = put_numbers(out, a, &others);
-    put_bytes(out, b, b"\n")
+    ]
+}
+
+// The line of the counts.
+pub fn put_counts(out: &mut [u8], at: usize, counts: StreamCounts) -> usize
+    requires { ⌜ Room (now out) at (line (countsLine counts)) ⌝ }
+    ensures { λ r. ⌜ Wrote (now (out .entry)) (now (out .exit)) at (line (countsLine counts)) r ⌝ }
+{
+    let numbers = count_numbers(counts);
+    let end = put_numbers(out, at, &numbers);
+    put_bytes(out, end, b"\n")
 }
 
 // A line for each of the texts that stand end to end in `texts`.

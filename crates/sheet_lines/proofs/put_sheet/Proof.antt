@@ -30,7 +30,11 @@ same-length-2 : tie.Need-same-length-2
 same-length-2 c = search needs
 
 returns-2 : tie.Need-returns-2
-returns-2 c = rw (by-record (c .before .before .before .before .before .before .before .read-chart-record .ensures) (c .before .before .before .before .before .before .before .before .before .if1 .left) (c .before .before .before .before .if2 .taken)) (c .before .before .put-refusal2 .ensures)
+returns-2 c =
+    let t = c .before .before .before .before in
+    let r = t .before .before .before in
+    let no = by-record (r .read-chart-record .ensures) (r .before .before .if1 .left) (t .if2 .taken) in
+    rw no (c .before .before .put-refusal2 .ensures)
 
 add-end : tie.Need-add-end
 add-end c = omega (arith, name-end (c .before .before .before .before .read-chart-record .ensures) (c .before .if2 .left))
@@ -48,16 +52,24 @@ array-share-prefix-densities : tie.Need-array-share-prefix-densities
 array-share-prefix-densities c = measures-within (c .before .before .before .before .before .read-chart-record .ensures) (c .before .before .if2 .left)
 
 slice-aggregate-put-chart : tie.Need-slice-aggregate-put-chart
-slice-aggregate-put-chart c = sym (length-take-le _ _ (measures-within (c .before .before .before .before .before .before .read-chart-record .ensures) (c .before .before .before .if2 .left)))
+slice-aggregate-put-chart c =
+    let t = c .before .before .before in
+    sym (length-take-le _ _ (measures-within (t .before .before .before .read-chart-record .ensures) (t .if2 .left)))
 
 put-chart-requires : tie.Need-put-chart-requires
-put-chart-requires c κs = name-room (c .before .before .before .before .before .before .before .read-chart-record .ensures) (c .before .before .before .before .if2 .left) (c .before .before .before .before .before .before .before .before .before .before .before .before .pre)
+put-chart-requires c κs =
+    let t = c .before .before .before .before in
+    let r = t .before .before .before in
+    name-room (r .read-chart-record .ensures) (t .if2 .left) (r .before .before .before .before .before .pre)
 
 same-length-3 : tie.Need-same-length-3
 same-length-3 c = search needs
 
 returns-3 : tie.Need-returns-3
-returns-3 c = sheet-printed (c .before .before .before .before .before .before .before .before .before .before .read-chart-record .ensures) (c .before .before .before .before .before .before .before .if2 .left) (c .before .before .before .before .before .before .before .before .before .before .before .before .if1 .left) (c .before .before .put-chart .ensures)
+returns-3 c =
+    let t = c .before .before .before .before .before .before .before in
+    let r = t .before .before .before in
+    sheet-printed (r .read-chart-record .ensures) (t .if2 .left) (r .before .before .if1 .left) (c .before .before .put-chart .ensures)
 
 pub put-sheet-spec : {M : Type 1} → statement M
 put-sheet-spec =

@@ -26,7 +26,10 @@ same-length : tie.Need-same-length
 same-length c = search needs
 
 returns : tie.Need-returns
-returns c = rw (by-pass _ _ (c .before .before .before .before .before .before .before .before .before .compute-stream-outputs .ensures) (c .before .before .before .before .if1 .taken)) (c .before .before .put-refusal .ensures)
+returns c =
+    let a = c .before .before .before .before in
+    let p = a .before .before .before .before .before in
+    rw (by-pass _ _ (p .compute-stream-outputs .ensures) (a .if1 .taken)) (c .before .before .put-refusal .ensures)
 
 slice-aggregate-stream-breakdown : tie.Need-slice-aggregate-stream-breakdown
 slice-aggregate-stream-breakdown c = search needs
@@ -41,28 +44,58 @@ same-length-2 : tie.Need-same-length-2
 same-length-2 c = search needs
 
 returns-2 : tie.Need-returns-2
-returns-2 c = rw (by-total _ _ (c .before .before .before .before .before .before .before .before .before .before .before .before .before .before .compute-stream-outputs .ensures) (c .before .before .before .before .before .before .before .before .before .if1 .left) (c .before .before .before .before .before .before .before .stream-breakdown .ensures) (c .before .before .before .before .if2 .taken)) (c .before .before .put-refusal2 .ensures)
+returns-2 c =
+    let t = c .before .before .before .before in
+    let s = t .before .before .before in
+    let a = s .before .before in
+    let p = a .before .before .before .before .before in
+    rw (by-total _ _ (p .compute-stream-outputs .ensures) (a .if1 .left) (s .stream-breakdown .ensures) (t .if2 .taken))
+    (c .before .before .put-refusal2 .ensures)
 
 slice-aggregate-put-lines : tie.Need-slice-aggregate-put-lines
 slice-aggregate-put-lines c = search needs
 
 slice-aggregate-put-lines-2 : tie.Need-slice-aggregate-put-lines-2
-slice-aggregate-put-lines-2 c = sym (six (c .before .before .before .before .before .before .before .before .before .before .before .before .before .before .compute-stream-outputs .ensures) (c .before .before .before .before .before .before .before .before .before .if1 .left))
+slice-aggregate-put-lines-2 c =
+    let a = c .before .before .before .before .before .before .before .before .before in
+    let p = a .before .before .before .before .before in
+    sym (six (p .compute-stream-outputs .ensures) (a .if1 .left))
 
 array-share-prefix-total : tie.Need-array-share-prefix-total
-array-share-prefix-total c = total-within (c .before .before .before .before .before .before .before .before .before .before .before .before .before .before .compute-stream-outputs .ensures) (c .before .before .before .before .before .before .before .before .before .if1 .left) (c .before .before .before .before .before .before .before .stream-breakdown .ensures) (c .before .before .before .before .if2 .left)
+array-share-prefix-total c =
+    let t = c .before .before .before .before in
+    let s = t .before .before .before in
+    let a = s .before .before in
+    let p = a .before .before .before .before .before in
+    total-within (p .compute-stream-outputs .ensures) (a .if1 .left) (s .stream-breakdown .ensures) (t .if2 .left)
 
 slice-aggregate-put-lines-3 : tie.Need-slice-aggregate-put-lines-3
-slice-aggregate-put-lines-3 c = sym (length-take-le _ _ (total-within (c .before .before .before .before .before .before .before .before .before .before .before .before .before .before .before .compute-stream-outputs .ensures) (c .before .before .before .before .before .before .before .before .before .before .if1 .left) (c .before .before .before .before .before .before .before .before .stream-breakdown .ensures) (c .before .before .before .before .before .if2 .left)))
+slice-aggregate-put-lines-3 c =
+    let t = c .before .before .before .before .before in
+    let s = t .before .before .before in
+    let a = s .before .before in
+    let p = a .before .before .before .before .before in
+    sym (length-take-le _ _ (total-within (p .compute-stream-outputs .ensures) (a .if1 .left) (s .stream-breakdown .ensures) (t .if2 .left)))
 
 put-lines-requires : tie.Need-put-lines-requires
-put-lines-requires c κs = lines-room (c .before .before .before .before .before .before .before .before .before .before .before .before .before .before .before .compute-stream-outputs .ensures) (c .before .before .before .before .before .before .before .before .before .before .if1 .left) (c .before .before .before .before .before .before .before .before .stream-breakdown .ensures) (c .before .before .before .before .before .if2 .left) _ (c .before .before .before .before .before .before .before .before .before .before .before .before .before .before .before .before .before .before .before .before .before .before .pre)
+put-lines-requires c κs =
+    let t = c .before .before .before .before .before in
+    let s = t .before .before .before in
+    let a = s .before .before in
+    let p = a .before .before .before .before .before in
+    let start = p .before .before .before .before .before .before .before in
+    lines-room (p .compute-stream-outputs .ensures) (a .if1 .left) (s .stream-breakdown .ensures) (t .if2 .left) _ (start .pre)
 
 same-length-3 : tie.Need-same-length-3
 same-length-3 c = search needs
 
 returns-3 : tie.Need-returns-3
-returns-3 c = printed (c .before .before .before .before .before .before .before .before .before .before .before .before .before .before .before .before .before .before .compute-stream-outputs .ensures) (c .before .before .before .before .before .before .before .before .before .before .before .before .before .if1 .left) (c .before .before .before .before .before .before .before .before .before .before .before .stream-breakdown .ensures) (c .before .before .before .before .before .before .before .before .if2 .left) _ (c .before .before .put-lines .ensures)
+returns-3 c =
+    let t = c .before .before .before .before .before .before .before .before in
+    let s = t .before .before .before in
+    let a = s .before .before in
+    let p = a .before .before .before .before .before in
+    printed (p .compute-stream-outputs .ensures) (a .if1 .left) (s .stream-breakdown .ensures) (t .if2 .left) _ (c .before .before .put-lines .ensures)
 
 pub put-chart-spec : {M : Type 1} → statement M
 put-chart-spec =

@@ -10,26 +10,37 @@ put-line-requires : tie.Need-put-line-requires
 put-line-requires c κs = room-first _ _ (c .before .before .before .before .before .before .pre .room)
 
 put-counts-requires : tie.Need-put-counts-requires
-put-counts-requires c κs = room-first _ _ (room-next _ _ (c .before .before .before .put-line .ensures) (c .before .before .before .before .before .before .before .before .before .before .pre .room))
+put-counts-requires c κs =
+    let l = c .before .before .before in
+    room-first _ _ (room-next _ _ (l .put-line .ensures) (l .before .before .before .before .before .before .before .pre .room))
 
 put-texts-requires : tie.Need-put-texts-requires
 put-texts-requires c κs =
-    let s = c .before .before .before .before .before .before .before .before .before .before .before .before .before .before in
-    let rest = room-next _ _ (c .before .before .before .put-counts .ensures) (room-next _ _ (c .before .before .before .before .before .before .before .put-line .ensures) (s .pre .room)) in
+    let k = c .before .before .before in
+    let l = k .before .before .before .before in
+    let s = l .before .before .before .before .before .before .before in
+    let rest = room-next _ _ (k .put-counts .ensures) (room-next _ _ (l .put-line .ensures) (s .pre .room)) in
     record { within = s .pre .within; room = room-first _ _ rest }
 
 put-line-requires-2 : tie.Need-put-line-requires-2
 put-line-requires-2 c κs =
-    let rest = room-next _ _ (c .before .before .before .before .before .before .before .put-counts .ensures) (room-next _ _ (c .before .before .before .before .before .before .before .before .before .before .before .put-line .ensures) (c .before .before .before .before .before .before .before .before .before .before .before .before .before .before .before .before .before .before .pre .room)) in
-    room-next _ _ (c .before .before .before .put-texts .ensures) rest
+    let t = c .before .before .before in
+    let k = t .before .before .before .before in
+    let l = k .before .before .before .before in
+    let s = l .before .before .before .before .before .before .before in
+    let rest = room-next _ _ (k .put-counts .ensures) (room-next _ _ (l .put-line .ensures) (s .pre .room)) in
+    room-next _ _ (t .put-texts .ensures) rest
 
 same-length : tie.Need-same-length
 same-length c = search needs
 
 returns : tie.Need-returns
 returns c =
-    let w = wrote _ _ (c .before .before .before .before .before .before .put-texts .ensures) (c .before .before .put-line2 .ensures) in
-    started (c .before .before .before .before .before .before .before .before .before .before .before .before .before .before .before .before .before .before .before .before .before .pre .room) (wrote _ _ (c .before .before .before .before .before .before .before .before .before .before .before .before .before .before .put-line .ensures) (wrote _ _ (c .before .before .before .before .before .before .before .before .before .before .put-counts .ensures) w))
+    let t = c .before .before .before .before .before .before in
+    let k = t .before .before .before .before in
+    let l = k .before .before .before .before in
+    let w = wrote _ _ (t .put-texts .ensures) (c .before .before .put-line2 .ensures) in
+    started (l .before .before .before .before .before .before .before .pre .room) (wrote _ _ (l .put-line .ensures) (wrote _ _ (k .put-counts .ensures) w))
 
 pub put-lines-spec : {M : Type 1} → statement M
 put-lines-spec =

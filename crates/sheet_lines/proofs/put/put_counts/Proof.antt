@@ -1,52 +1,45 @@
 -- `sheet_lines::put::put_counts` meets its contract.
 -- Assumes nothing.
 use mathlib.Core.List.{[], _∷_}
-use Rattle.number.proofs.Place.{room-first, room-next, wrote}
-use Rattle.sheet_lines.specs.Steps.{eachAfterSpace}
-use Rattle.sheet_lines.proofs.Numbers.{others, counts-parts}
+use Rattle.number.proofs.Place.{room-next, wrote}
+use Rattle.sheet_lines.proofs.Numbers.{counts-room}
 use borrow.Author.Needs.{needs}
 use Rattle.sheet_lines.proofs.put.put_counts.Statement.{statement}
 use Rattle.sheet_lines.proofs.put.put_counts.Tie as tie
 
-cast-put-u64 : tie.Need-cast-put-u64
-cast-put-u64 c = search needs
-
-put-u64-requires : tie.Need-put-u64-requires
-put-u64-requires c κs =
-    let s = c .before .before .before in
-    room-first _ _ (rw (counts-parts (s .args .counts)) at (s .pre))
+count-numbers-requires : tie.Need-count-numbers-requires
+count-numbers-requires c κs = search needs
 
 slice-aggregate-put-numbers : tie.Need-slice-aggregate-put-numbers
 slice-aggregate-put-numbers c = search needs
 
 put-numbers-requires : tie.Need-put-numbers-requires
 put-numbers-requires c κs =
-    let s = c .before .before .before .before .before .before .before .before in
-    room-first (eachAfterSpace (others (s .args .counts))) (10 ∷ []) (room-next _ _ (c .before .before .before .before .put-u64 .ensures) (rw (counts-parts (s .args .counts)) at (s .pre)))
+    let n = c .before .before in
+    counts-room (n .before .before .args .counts) (n .count-numbers .ensures) (n .before .before .pre)
 
 slice-aggregate-put-bytes : tie.Need-slice-aggregate-put-bytes
 slice-aggregate-put-bytes c = search needs
 
 put-bytes-requires : tie.Need-put-bytes-requires
 put-bytes-requires c κs =
-    let s = c .before .before .before .before .before .before .before .before .before .before .before .before .before in
-    let rest = room-next _ _ (c .before .before .before .before .before .before .before .before .before .put-u64 .ensures) (rw (counts-parts (s .args .counts)) at (s .pre)) in
-    room-next (eachAfterSpace (others (s .args .counts))) (10 ∷ []) (c .before .before .before .before .put-numbers .ensures) rest
+    let p = c .before .before .before .before in
+    let n = p .before .before .before in
+    room-next _ (10 ∷ []) (rw (n .count-numbers .ensures) at (p .put-numbers .ensures)) (n .before .before .pre)
 
 same-length : tie.Need-same-length
 same-length c = search needs
 
 returns : tie.Need-returns
 returns c =
-    let counts = c .before .before .before .before .before .before .before .before .before .before .before .before .before .before .before .before .args .counts in
-    rw (counts-parts counts) (wrote _ _ (c .before .before .before .before .before .before .before .before .before .before .before .before .put-u64 .ensures) (wrote (eachAfterSpace (others counts)) (10 ∷ []) (c .before .before .before .before .before .before .before .put-numbers .ensures) (c .before .before .put-bytes .ensures)))
+    let p = c .before .before .before .before .before .before .before in
+    wrote _ _ (rw (p .before .before .before .count-numbers .ensures) at (p .put-numbers .ensures)) (c .before .before .put-bytes .ensures)
 
 pub put-counts-spec : {M : Type 1} → statement M
 put-counts-spec =
     tie.close
     (tie.spec
-    cast-put-u64
-    put-u64-requires
+    count-numbers-requires
     slice-aggregate-put-numbers
     put-numbers-requires
     slice-aggregate-put-bytes

@@ -12,7 +12,9 @@ slice-aggregate-put-bytes : tie.Need-slice-aggregate-put-bytes
 slice-aggregate-put-bytes c = search needs
 
 put-bytes-requires-2 : tie.Need-put-bytes-requires-2
-put-bytes-requires-2 c κs = room-next _ _ (c .before .before .before .before .put-bytes .ensures) (c .before .before .before .before .before .before .before .before .pre)
+put-bytes-requires-2 c κs =
+    let w = c .before .before .before .before in
+    room-next _ _ (w .put-bytes .ensures) (w .before .before .before .before .pre)
 
 same-length : tie.Need-same-length
 same-length c = search needs

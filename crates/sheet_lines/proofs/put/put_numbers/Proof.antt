@@ -1,23 +1,33 @@
 -- `sheet_lines::put::put_numbers` meets its contract.
 -- Assumes nothing.
-use Prim.Native.Nat.{_-_, _≤_}
-use lib.ListN.{length, drop, drop-of-length-le}
-use Rattle.number.specs.Place.{Room}
-use Rattle.text_buffer.proofs.Reached.{Reached, starts, long, room-part, on, finished}
-use Rattle.sheet_lines.specs.Steps.{eachAfterSpace}
-use Rattle.sheet_lines.proofs.Numbers.{number-chunk}
+use Prim.Native.Nat.{_-_}
+use mathlib.Core.Path.{_∙_}
+use mathlib.Core.List.{[]}
+use native.Mathlib.Omega.{arith}
+use lib.ListN.{length}
+use Rattle.number.proofs.Place.{wrote-length}
+use Rattle.sheet_lines.proofs.Numbers.{Numbering, put-long, next-room, put-next, first-room, put-first, put-all}
 use borrow.Author.Needs.{needs}
 use Rattle.sheet_lines.proofs.put.put_numbers.Statement.{statement}
 use Rattle.sheet_lines.proofs.put.put_numbers.Tie as tie
 
 abbrev Inv-loop : tie.InvT-loop
-Inv-loop out₀ at numbers place₀ i₀ out place i = (i ≤ length numbers) × Room out₀ at (eachAfterSpace numbers) × Reached out₀ at (eachAfterSpace numbers) (eachAfterSpace (drop i numbers)) out place
+Inv-loop out₀ at numbers place₀ i₀ out place i = Numbering numbers out₀ place₀ out place i
 
 abbrev μ-loop : tie.MeasureT-loop
 μ-loop out₀ at numbers place₀ i₀ out place i = length numbers - i
 
+shared-slice-read-put-u64 : tie.Need-shared-slice-read-put-u64 Inv-loop μ-loop
+shared-slice-read-put-u64 c = search needs
+
+cast-put-u64 : tie.Need-cast-put-u64 Inv-loop μ-loop
+cast-put-u64 c = omega (arith, c .shared-slice-known2 .given 0)
+
+put-u64-requires : tie.Need-put-u64-requires Inv-loop μ-loop
+put-u64-requires c κs = first-room (c .before .before .before .before .pre)
+
 loop-holds : tie.Need-loop-holds Inv-loop μ-loop
-loop-holds c = (search needs, c .before .before .pre, starts)
+loop-holds c = put-first (c .before .before .before .before .before .before .before .pre) (c .before .before .put-u64 .ensures)
 
 mul-put-spaced : tie.Need-mul-put-spaced Inv-loop μ-loop
 mul-put-spaced c = search needs
@@ -26,9 +36,7 @@ shared-slice-read-put-spaced : tie.Need-shared-slice-read-put-spaced Inv-loop μ
 shared-slice-read-put-spaced c = search needs
 
 put-spaced-requires : tie.Need-put-spaced-requires Inv-loop μ-loop
-put-spaced-requires c κs =
-    let l = c .before .before .before .loop in
-    room-part (l .inv .2) _ _ (number-chunk _ (l .i) (c .before .before .loop-test .taken)) (l .inv .1)
+put-spaced-requires c κs = next-room (c .before .before .before .loop .inv) (c .before .before .loop-test .taken)
 
 add-i : tie.Need-add-i Inv-loop μ-loop
 add-i c = search needs
@@ -38,14 +46,16 @@ loop-less c = search needs
 
 loop-again : tie.Need-loop-again Inv-loop μ-loop
 loop-again c =
-    let l = c .before .before .before .before .before .before .loop in
-    (search needs, l .inv .1, on (l .inv .2) _ _ (number-chunk _ (l .i) (c .before .before .before .before .before .loop-test .taken)) (c .before .before .put-spaced .ensures))
+    let t = c .before .before .before .before .before in
+    put-next (t .before .loop .inv) (t .loop-test .taken) (c .before .before .put-spaced .ensures)
 
 same-length : tie.Need-same-length Inv-loop μ-loop
-same-length c = long (c .before .loop .inv .2)
+same-length c = put-long (c .before .loop .inv) ∙ wrote-length _ [] (c .before .before .before .before .put-u64 .ensures)
 
 returns : tie.Need-returns Inv-loop μ-loop
-returns c = finished (c .before .loop .inv .2) (rw (drop-of-length-le _ (c .loop-test .left)))
+returns c =
+    let u = c .before .before .before .before in
+    put-all (u .before .before .before .before .before .pre) (u .put-u64 .ensures) (c .before .loop .inv) (c .loop-test .left)
 
 pub put-numbers-spec : {M : Type 1} → statement M
 put-numbers-spec =
@@ -53,6 +63,9 @@ put-numbers-spec =
     (tie.spec
     Inv-loop
     μ-loop
+    shared-slice-read-put-u64
+    cast-put-u64
+    put-u64-requires
     loop-holds
     mul-put-spaced
     shared-slice-read-put-spaced

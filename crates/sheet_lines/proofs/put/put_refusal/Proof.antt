@@ -18,27 +18,33 @@ put-bytes-requires c κs = search needs
 
 put-u64-requires : tie.Need-put-u64-requires
 put-u64-requires c κs =
-    let s = c .before .before .before .before .before .before .before in
-    let all = room-next (bytes "refused ") (digits (s .args .number) ++ (10 ∷ [])) (c .before .before .before .put-bytes .ensures) (refusal-room (s .args .number) (s .pre) (omega arith)) in
-    room-first _ (10 ∷ []) all
+    let w = c .before .before .before in
+    let s = w .before .before .before .before in
+    let room = refusal-room (s .args .number) (s .pre) (omega arith) in
+    room-first _ (10 ∷ []) (room-next (bytes "refused ") (digits (s .args .number) ++ (10 ∷ [])) (w .put-bytes .ensures) room)
 
 slice-aggregate-put-bytes-2 : tie.Need-slice-aggregate-put-bytes-2
 slice-aggregate-put-bytes-2 c = search needs
 
 put-bytes-requires-2 : tie.Need-put-bytes-requires-2
 put-bytes-requires-2 c κs =
-    let s = c .before .before .before .before .before .before .before .before .before .before .before .before in
-    let all = room-next (bytes "refused ") (digits (s .args .number) ++ (10 ∷ [])) (c .before .before .before .before .before .before .before .before .put-bytes .ensures) (refusal-room (s .args .number) (s .pre) (omega arith)) in
-    room-next _ (10 ∷ []) (c .before .before .before .before .put-u64 .ensures) all
+    let u = c .before .before .before .before in
+    let w = u .before .before .before .before in
+    let s = w .before .before .before .before in
+    let room = refusal-room (s .args .number) (s .pre) (omega arith) in
+    let rest = room-next (bytes "refused ") (digits (s .args .number) ++ (10 ∷ [])) (w .put-bytes .ensures) room in
+    room-next _ (10 ∷ []) (u .put-u64 .ensures) rest
 
 same-length : tie.Need-same-length
 same-length c = search needs
 
 returns : tie.Need-returns
 returns c =
-    let s = c .before .before .before .before .before .before .before .before .before .before .before .before .before .before .before in
-    let w = wrote (bytes "refused ") _ (c .before .before .before .before .before .before .before .before .before .before .before .put-bytes .ensures) (wrote _ _ (c .before .before .before .before .before .before .before .put-u64 .ensures) (c .before .before .put-bytes2 .ensures)) in
-    started (refusal-room (s .args .number) (s .pre) (omega arith)) w
+    let u = c .before .before .before .before .before .before .before in
+    let w = u .before .before .before .before in
+    let s = w .before .before .before .before in
+    let end = wrote _ _ (u .put-u64 .ensures) (c .before .before .put-bytes2 .ensures) in
+    started (refusal-room (s .args .number) (s .pre) (omega arith)) (wrote (bytes "refused ") _ (w .put-bytes .ensures) end)
 
 pub put-refusal-spec : {M : Type 1} → statement M
 put-refusal-spec =

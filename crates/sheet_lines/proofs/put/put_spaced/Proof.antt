@@ -14,7 +14,10 @@ put-bytes-requires : tie.Need-put-bytes-requires
 put-bytes-requires c κs = room-first (bytes " ") (digits (c .before .before .before .args .n)) (c .before .before .before .pre)
 
 put-u64-requires : tie.Need-put-u64-requires
-put-u64-requires c κs = room-next (bytes " ") (digits (c .before .before .before .before .before .before .before .args .n)) (c .before .before .before .put-bytes .ensures) (c .before .before .before .before .before .before .before .pre)
+put-u64-requires c κs =
+    let w = c .before .before .before in
+    let s = w .before .before .before .before in
+    room-next (bytes " ") (digits (s .args .n)) (w .put-bytes .ensures) (s .pre)
 
 same-length : tie.Need-same-length
 same-length c = search needs
