@@ -1,0 +1,4 @@
+pub mod Texts
+pub mod Answers
+pub mod EndToEnd
+pub mod Same

@@ -1,0 +1,124 @@
+-- `stream_outputs::short::put_by_three` meets its contract.
+-- Assumes nothing.
+use mathlib.Core.Path.{_∙_}
+use native.Mathlib.Omega.{arith}
+use borrow.Author.Needs.{needs}
+use Rattle.stream_outputs.proofs.FewTokens.{sn-asked, standard-asked, sn-room, standard-room, six-texts}
+use Rattle.stream_outputs.proofs.short.put_by_three.Statement.{statement}
+use Rattle.stream_outputs.proofs.short.put_by_three.Tie as tie
+
+shared-slice-read-open-run : tie.Need-shared-slice-read-open-run
+shared-slice-read-open-run c = search needs
+
+shared-slice-read-open-run-2 : tie.Need-shared-slice-read-open-run-2
+shared-slice-read-open-run-2 c = search needs
+
+open-run-requires : tie.Need-open-run-requires
+open-run-requires c κs = search needs
+
+sub-sn-three : tie.Need-sub-sn-three
+sub-sn-three c = search needs
+
+part-sn-three-start : tie.Need-part-sn-three-start
+part-sn-three-start c = search needs
+
+part-sn-three-end : tie.Need-part-sn-three-end
+part-sn-three-end c = search needs
+
+sub-sn-three-2 : tie.Need-sub-sn-three-2
+sub-sn-three-2 c = search needs
+
+part-sn-three-start-2 : tie.Need-part-sn-three-start-2
+part-sn-three-start-2 c = search needs
+
+part-sn-three-end-2 : tie.Need-part-sn-three-end-2
+part-sn-three-end-2 c = search needs
+
+sn-three-requires : tie.Need-sn-three-requires
+sn-three-requires c κs =
+    let p = c .before .before .before .before .before .before .before .before .before .before .before .before .before .before .before .pre in
+    rw (c .before .before .before .before .before .open-run .ensures) (sn-asked (p .tokened) (p .some) (p .words) (p .first) (p .second) (p .third))
+
+put-three-requires : tie.Need-put-three-requires
+put-three-requires c κs =
+    let p = c .before .before .before .before .before .before .before .before .before .before .before .before .before .before .before .before .before .before .before .before .before .before .before .before .before .before .pre in
+    sn-room (p .tokened) (p .some) (rw (c .before .before .before .before .before .before .before .before .before .before .before .before .before .before .before .before .open-run .ensures) at (c .before .before .before .before .before .before .before .before .before .before .sn-three .ensures))
+
+sub-standard-three : tie.Need-sub-standard-three
+sub-standard-three c = omega (arith, c .before .before .before .before .before .before .before .before .before .before .before .before .before .before .before .before .before .before .before .before .before .before .before .before .before .before .before .before .before .pre .some)
+
+part-standard-three-start : tie.Need-part-standard-three-start
+part-standard-three-start c = omega (arith, c .before .before .before .before .before .before .before .before .before .before .before .before .before .before .before .before .before .before .before .before .before .before .before .before .before .before .before .before .before .pre .some)
+
+part-standard-three-end : tie.Need-part-standard-three-end
+part-standard-three-end c = search needs
+
+sub-standard-three-2 : tie.Need-sub-standard-three-2
+sub-standard-three-2 c = omega (arith, c .before .before .before .before .before .before .before .before .before .before .before .before .before .before .before .before .before .before .before .before .before .before .before .before .before .before .before .before .before .before .pre .some, c .before .before .before .before .before .before .before .before .before .before .before .before .before .before .before .before .before .before .before .before .before .before .before .before .before .before .before .before .before .before .pre .tokened .long)
+
+part-standard-three-start-2 : tie.Need-part-standard-three-start-2
+part-standard-three-start-2 c = omega (arith, c .before .before .before .before .before .before .before .before .before .before .before .before .before .before .before .before .before .before .before .before .before .before .before .before .before .before .before .before .before .before .pre .some, c .before .before .before .before .before .before .before .before .before .before .before .before .before .before .before .before .before .before .before .before .before .before .before .before .before .before .before .before .before .before .pre .tokened .long)
+
+part-standard-three-end-2 : tie.Need-part-standard-three-end-2
+part-standard-three-end-2 c = search needs
+
+shared-slice-read-standard-three : tie.Need-shared-slice-read-standard-three
+shared-slice-read-standard-three c = omega (arith, c .before .before .before .before .before .before .before .before .before .before .before .before .before .before .before .before .before .before .before .before .before .before .before .before .before .before .before .before .before .before .before .before .pre .some, c .before .before .before .before .before .before .before .before .before .before .before .before .before .before .before .before .before .before .before .before .before .before .before .before .before .before .before .before .before .before .before .before .pre .tokened .long)
+
+standard-three-requires : tie.Need-standard-three-requires
+standard-three-requires c κs =
+    let p = c .before .before .before .before .before .before .before .before .before .before .before .before .before .before .before .before .before .before .before .before .before .before .before .before .before .before .before .before .before .before .before .before .before .before .before .pre in
+    let g = c .before .before .before .before .before .before .before .before .before .before .before .before .before .before .before .before .before .before .before .sn-three .ensures in
+    standard-asked (p .tokened) (p .some) (p .words) (omega (arith, p .first, g .first .long)) (omega (arith, p .second, g .second .long)) (omega (arith, p .third, g .third .long))
+
+put-three-requires-2 : tie.Need-put-three-requires-2
+put-three-requires-2 c κs =
+    let p = c .before .before .before .before .before .before .before .before .before .before .before .before .before .before .before .before .before .before .before .before .before .before .before .before .before .before .before .before .before .before .before .before .before .before .before .before .before .before .before .before .before .before .before .before .before .before .pre in
+    standard-room (p .tokened) (p .some) (rw (c .before .before .before .before .before .before .before .before .before .before .before .before .before .before .before .before .before .before .before .before .before .before .before .before .before .before .before .before .before .before .before .before .before .before .before .before .open-run .ensures) at (c .before .before .before .before .before .before .before .before .before .before .before .before .before .before .before .before .before .before .before .before .before .before .before .before .before .before .before .before .before .before .sn-three .ensures)) (c .before .before .before .before .before .before .before .before .before .before .before .before .before .before .before .before .before .before .before .put-three .ensures) (c .before .before .before .before .before .before .before .before .before .before .standard-three .ensures)
+
+same-length : tie.Need-same-length
+same-length c = c .before .before .before .before .before .before .before .before .before .before .before .before .before .standard-three .ensures .first .long ∙ c .before .before .before .before .before .before .before .before .before .before .before .before .before .before .before .before .before .before .before .before .before .before .before .before .before .before .before .before .before .before .before .before .before .sn-three .ensures .first .long
+
+same-length-2 : tie.Need-same-length-2
+same-length-2 c = c .before .before .before .before .before .before .before .before .before .before .before .before .before .standard-three .ensures .second .long ∙ c .before .before .before .before .before .before .before .before .before .before .before .before .before .before .before .before .before .before .before .before .before .before .before .before .before .before .before .before .before .before .before .before .before .sn-three .ensures .second .long
+
+same-length-3 : tie.Need-same-length-3
+same-length-3 c = c .before .before .before .before .before .before .before .before .before .before .before .before .before .standard-three .ensures .third .long ∙ c .before .before .before .before .before .before .before .before .before .before .before .before .before .before .before .before .before .before .before .before .before .before .before .before .before .before .before .before .before .before .before .before .before .sn-three .ensures .third .long
+
+same-length-4 : tie.Need-same-length-4
+same-length-4 c = search needs
+
+returns : tie.Need-returns
+returns c =
+    let p = c .before .before .before .before .before .before .before .before .before .before .before .before .before .before .before .before .before .before .before .before .before .before .before .before .before .before .before .before .before .before .before .before .before .before .before .before .before .before .before .before .before .before .before .before .before .before .before .before .before .pre in
+    six-texts (p .tokened) (p .some) (rw (c .before .before .before .before .before .before .before .before .before .before .before .before .before .before .before .before .before .before .before .before .before .before .before .before .before .before .before .before .before .before .before .before .before .before .before .before .before .before .before .open-run .ensures) at (c .before .before .before .before .before .before .before .before .before .before .before .before .before .before .before .before .before .before .before .before .before .before .before .before .before .before .before .before .before .before .before .before .before .sn-three .ensures)) (c .before .before .before .before .before .before .before .before .before .before .before .before .before .before .before .before .before .before .before .before .before .before .put-three .ensures) (c .before .before .before .before .before .before .before .before .before .before .before .before .before .standard-three .ensures) (c .before .before .put-three2 .ensures)
+
+pub put-by-three-spec : {M : Type 1} → statement M
+put-by-three-spec =
+    tie.close
+    (tie.spec
+    shared-slice-read-open-run
+    shared-slice-read-open-run-2
+    open-run-requires
+    sub-sn-three
+    part-sn-three-start
+    part-sn-three-end
+    sub-sn-three-2
+    part-sn-three-start-2
+    part-sn-three-end-2
+    sn-three-requires
+    put-three-requires
+    sub-standard-three
+    part-standard-three-start
+    part-standard-three-end
+    sub-standard-three-2
+    part-standard-three-start-2
+    part-standard-three-end-2
+    shared-slice-read-standard-three
+    standard-three-requires
+    put-three-requires-2
+    same-length
+    same-length-2
+    same-length-3
+    same-length-4
+    returns)
