@@ -2,20 +2,20 @@
 use crate::line::print_number;
 use crate::line::print_numbers;
 use crate::line::print_slice;
+use chart_texts::ThreeWritten;
+use chart_texts::single::generate_breakdown;
+use chart_texts::single::stream_breakdown;
+use chart_texts::three::generate_breakdowns;
+use chart_texts::three::stream_breakdowns;
+use label::LabelWritten;
+use label::label;
 use libc::STDOUT_FILENO;
 use number::Written;
 use number::push_u64;
 use rules::BreakdownMode;
 use rules::RunDensity;
 use rules::StreamBreakdownLevel;
-use label::LabelWritten;
-use chart_texts::ThreeWritten;
-use label::label;
-use chart_texts::single::generate_breakdown;
-use chart_texts::single::stream_breakdown;
 use run_symbol::format_run_symbol;
-use chart_texts::three::generate_breakdowns;
-use chart_texts::three::stream_breakdowns;
 ghost use Prim.Native.Nat.{_≤_};
 
 pub enum Call {

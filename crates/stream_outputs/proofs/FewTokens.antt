@@ -84,26 +84,35 @@ module _ {m cs ns old : List ℕ} (t : Tokened m cs ns old) (h : length cs ≢ 0
     sn-asked = asked (tokens-behind (source t) h (snForm 0) (first-sn (snForm 0) c n (class-here (source t) h) first-few refl))
 
     pub standard-asked : ThreeAsked 1 n backC backN table a b d
-    standard-asked = asked (tokens-behind (source t) h (standardForm 0 false) (first-standard (standardForm 0 false) c n (class-here (source t) h) first-few refl))
+    standard-asked =
+        let f = standardForm 0 false in
+        asked (tokens-behind (source t) h f (first-standard f c n (class-here (source t) h) first-few refl))
 
   -- ---- each text
 
-  sn-text : (mode : BreakdownMode) → snOf (limitOf mode) (token c n false ∷ paired backC backN) ≡ text (sn mode) m
+  -- the SN text of join limit k
+  abbrev snHere : ℕ → List ℕ
+  snHere k = snOf k (token c n false ∷ paired backC backN)
+
+  -- the standard text of join limit k, with gaps as signs or not
+  abbrev standardHere : Bool → ℕ → List ℕ
+  standardHere b k = standardFrom b k n false (paired backC backN)
+
+  sn-text : (mode : BreakdownMode) → snHere (limitOf mode) ≡ text (sn mode) m
   sn-text mode = ap (snOf (limitOf mode)) (sym (first-here (source t) h)) ∙ made t (sn mode) refl refl
 
-  -- a standard text, by its join limit and how it shows gaps
-  first-piece : (k : ℕ) (b : Bool) → standardFrom b k n false (paired backC backN) ≡ textOf (standardForm k b) (paired cs ns)
+  first-piece : (k : ℕ) (b : Bool) → standardHere b k ≡ textOf (standardForm k b) (paired cs ns)
   first-piece k b =
       sym (first-standard (standardForm k b) c n (class-here (source t) h) first-few refl .text (paired backC backN))
       ∙ ap (textOf (standardForm k b)) (sym (first-here (source t) h))
 
-  detailed-text : standardFrom false 0 n false (paired backC backN) ≡ text (standard Level.Detailed) m
+  detailed-text : standardHere false 0 ≡ text (standard Level.Detailed) m
   detailed-text = first-piece 0 false ∙ made t (standard Level.Detailed) refl refl
 
-  partial-text : standardFrom true 0 n false (paired backC backN) ≡ text (standard Level.Partial) m
+  partial-text : standardHere true 0 ≡ text (standard Level.Partial) m
   partial-text = first-piece 0 true ∙ made t (standard Level.Partial) refl refl
 
-  simple-text : standardFrom true 1 n false (paired backC backN) ≡ text (standard Level.Simple) m
+  simple-text : standardHere true 1 ≡ text (standard Level.Simple) m
   simple-text = first-piece 1 true ∙ made t (standard Level.Simple) refl refl
 
   -- ---- three texts, and then the other three
@@ -118,7 +127,7 @@ module _ {m cs ns old : List ℕ} (t : Tokened m cs ns old) (h : length cs ≢ 0
   all-room = record { fits = omega (arith, t .room, ap {B = ℕ} length (threes m)) }
 
   module _ {a₀ a b₀ b d₀ d : List ℕ} {r : Three}
-      (g : ThreeGrown a₀ a b₀ b d₀ d (snOf 0 (token c n false ∷ paired backC backN)) (snOf 1 (token c n false ∷ paired backC backN)) (snOf 4 (token c n false ∷ paired backC backN)) r) where
+      (g : ThreeGrown a₀ a b₀ b d₀ d (snHere 0) (snHere 1) (snHere 4) r) where
     sn-grown : ThreeGrown a₀ a b₀ b d₀ d (text (sn Mode.Detailed) m) (text (sn Mode.Partial) m) (text (sn Mode.Simplified) m) r
     sn-grown = rw (sn-text Mode.Detailed, sn-text Mode.Partial, sn-text Mode.Simplified) at g
 
@@ -130,7 +139,7 @@ module _ {m cs ns old : List ℕ} (t : Tokened m cs ns old) (h : length cs ≢ 0
       sn-wrote = rw (three-bytes sn-grown) at w
 
       module _ {a₁ a₂ b₁ b₂ d₁ d₂ : List ℕ} {s : Three}
-          (q : ThreeGrown a₁ a₂ b₁ b₂ d₁ d₂ (standardFrom false 0 n false (paired backC backN)) (standardFrom true 0 n false (paired backC backN)) (standardFrom true 1 n false (paired backC backN)) s) where
+          (q : ThreeGrown a₁ a₂ b₁ b₂ d₁ d₂ (standardHere false 0) (standardHere true 0) (standardHere true 1) s) where
         standard-grown : ThreeGrown a₁ a₂ b₁ b₂ d₁ d₂ (text (standard Level.Detailed) m) (text (standard Level.Partial) m) (text (standard Level.Simple) m) s
         standard-grown = rw (detailed-text, partial-text, simple-text) at q
 

@@ -47,7 +47,19 @@ use Rattle.stream_outputs.specs.Pass.{FirstNo, Shorter, Tokened, SixText
 pub roomy : (m : List ℕ) → length (endToEnd passKinds m) ≤ 17 * length m + 33
 roomy m =
     simp length-append
-    (omega (arith, text-most m (sn Mode.Detailed), text-most m (sn Mode.Partial), text-most m (sn Mode.Simplified), text-most m (standard Level.Detailed), text-most m (standard Level.Partial), text-most m (standard Level.Simple)))
+    (omega (
+      arith,
+      text-most m (sn Mode.Detailed),
+      text-most m (sn Mode.Partial),
+      text-most m (sn Mode.Simplified),
+      text-most m (standard Level.Detailed),
+      text-most m (standard Level.Partial),
+      text-most m (standard Level.Simple),
+    ))
+
+-- the sum of six lengths
+abbrev pub sum : List ℕ → ℕ
+sum l = getD l 0 0 + getD l 1 0 + getD l 2 0 + getD l 3 0 + getD l 4 0 + getD l 5 0
 
 module _ (m part : List ℕ) (e : part ≡ activePart m) {r : Due} (d : DueOf (runs (classes part)) r) where
   read : runs (classes part) ≡ tokens (classes m)
@@ -59,10 +71,17 @@ module _ (m part : List ℕ) (e : part ≡ activePart m) {r : Due} (d : DueOf (r
   is-text : (k : Kind) → isTotal k ≡ false → length (textOf (formOf k) (runs (classes part))) ≡ length (text k m)
   is-text k h = ap length (form-text (runs (classes part)) m read k h)
 
-  -- the sum of the six lengths
-  pub due-bytes : getD (r .lengths) 0 0 + getD (r .lengths) 1 0 + getD (r .lengths) 2 0 + getD (r .lengths) 3 0 + getD (r .lengths) 4 0 + getD (r .lengths) 5 0 ≡ length (endToEnd passKinds m)
+  pub due-bytes : sum (r .lengths) ≡ length (endToEnd passKinds m)
   due-bytes =
-      rw (d .bytes, is-text (sn Mode.Detailed) refl, is-text (sn Mode.Partial) refl, is-text (sn Mode.Simplified) refl, is-text (standard Level.Detailed) refl, is-text (standard Level.Partial) refl, is-text (standard Level.Simple) refl)
+      rw (
+        d .bytes,
+        is-text (sn Mode.Detailed) refl,
+        is-text (sn Mode.Partial) refl,
+        is-text (sn Mode.Simplified) refl,
+        is-text (standard Level.Detailed) refl,
+        is-text (standard Level.Partial) refl,
+        is-text (standard Level.Simple) refl,
+      )
       (simp length-append (omega arith))
 
 -- ---- written
@@ -116,26 +135,32 @@ module _ {m cs ns old : List ℕ} (t : Tokened m cs ns old) {table first : List 
     others-room = added-room (g .done) (g .wrote) (endToEnd (drop i passKinds) m) (rw (g .whole) (record { fits = omega (arith, t .room) }))
 
     so-far : to .place + to .left ≡ length (g .done)
-    so-far = rw zero-add at (added-next (g .done) (g .wrote) (omega arith) (omega (arith, g .ready .long, g .ready .few)))
+    so-far = rw (zero-add (length (g .done))) at (added-next (g .done) (g .wrote) (omega arith) (omega (arith, g .ready .long, g .ready .few)))
 
     module _ (h : i < 6) {f : Form} (e : f ≡ formOf (passKind i)) where
       is-next : textOf f (paired cs ns) ≡ text (passKind i) m
       is-next = made t (passKind i) (not-total i h) e
 
       pub next-room : Room out (to .place) (take (to .left) buf ++ textOf f (paired cs ns))
-      next-room = rw is-next (room-first (take (to .left) buf ++ text (passKind i) m) (endToEnd (drop (suc i) passKinds) m) (rw append-assoc (rw (next-kind i h) at others-room)))
+      next-room =
+          rw is-next
+          (room-first (take (to .left) buf ++ text (passKind i) m) (endToEnd (drop (suc i) passKinds) m)
+          (rw append-assoc (rw (next-kind i h) at others-room)))
 
       module _ {last new : List ℕ} {next : Left} (a : Added buf out to (textOf f (paired cs ns)) last new next) where
         behind : next .place + next .left ≡ length (g .done) + length (text (passKind i) m)
         behind =
-            let n = added-next (textOf f (paired cs ns)) a (omega (arith, g .ready .long, g .ready .few)) (omega (arith, added-ready (textOf f (paired cs ns)) a (g .ready) .long, a .few)) in
+            let x = textOf f (paired cs ns) in
+            let n = added-next x a (omega (arith, g .ready .long, g .ready .few)) (omega (arith, added-ready x a (g .ready) .long, a .few)) in
             omega (arith, n, so-far, ap {B = ℕ} length is-next)
 
         pub next-between : (to .place + to .left ≤ next .place + next .left) × (next .place + next .left < 18446744073709551616)
         next-between =
             let w = ap {B = ℕ} length (g .whole) in
             let k = ap {B = ℕ} (λ ks. length (endToEnd ks m)) (next-kind i h) in
-            (omega (arith, so-far, behind), omega (arith, behind, w, length-append (g .done) (endToEnd (drop i passKinds) m), k, length-append (text (passKind i) m) (endToEnd (drop (suc i) passKinds) m), roomy m, t .few))
+            let d = length-append (g .done) (endToEnd (drop i passKinds) m) in
+            let l = length-append (text (passKind i) m) (endToEnd (drop (suc i) passKinds) m) in
+            (omega (arith, so-far, behind), omega (arith, behind, w, d, k, l, roomy m, t .few))
 
         pub going-on : (r : ℕ) → r + (to .place + to .left) ≡ next .place + next .left → Going m table first old (i + 1) last new (set lengths i r) next
         going-on r l =
@@ -193,10 +218,12 @@ module _ (m : List ℕ) (c n room : ℕ) where
 
     module _ (a : due ≤ c) (b : due ≤ n) where
       pub no-4 : room < bytes → FirstNo m c n room 4
-      no-4 l cs ns old e f g = rw (le-leb (length m) 1048576 few, le-leb due (length cs) (rw e a), le-leb due (length ns) (rw f b), lt-leb bytes (length old) (rw g l))
+      no-4 l cs ns old e f g =
+          rw (le-leb (length m) 1048576 few, le-leb due (length cs) (rw e a), le-leb due (length ns) (rw f b), lt-leb bytes (length old) (rw g l))
 
       pub no-0 : bytes ≤ room → FirstNo m c n room 0
-      no-0 l cs ns old e f g = rw (le-leb (length m) 1048576 few, le-leb due (length cs) (rw e a), le-leb due (length ns) (rw f b), le-leb bytes (length old) (rw g l))
+      no-0 l cs ns old e f g =
+          rw (le-leb (length m) 1048576 few, le-leb due (length cs) (rw e a), le-leb due (length ns) (rw f b), le-leb bytes (length old) (rw g l))
 
 -- ---- the pass
 
@@ -217,7 +244,10 @@ module _ (m cs ns old : List ℕ) {no : ℕ} (e : no ≡ passNo m cs ns old) whe
 
   -- no question was answered with no
   module _ (z : no ≡ 0) where
-    all : (leb (length m) 1048576 ≡ true) × (leb (length (tokens (classes m))) (length cs) ≡ true) × (leb (length (tokens (classes m))) (length ns) ≡ true) × (leb (length (endToEnd passKinds m)) (length old) ≡ true)
+    all : (leb (length m) 1048576 ≡ true)
+        × (leb (length (tokens (classes m))) (length cs) ≡ true)
+        × (leb (length (tokens (classes m))) (length ns) ≡ true)
+        × (leb (length (endToEnd passKinds m)) (length old) ≡ true)
     all = go _ _ _ _ (sym e ∙ z)
       where
         go : (a b c d : Bool) → firstNo (question 1 a ∷ question 2 (b && c) ∷ question 4 d ∷ []) ≡ 0 → (a ≡ true) × (b ≡ true) × (c ≡ true) × (d ≡ true)
@@ -231,7 +261,8 @@ module _ (m cs ns old : List ℕ) {no : ℕ} (e : no ≡ passNo m cs ns old) whe
     fitting = record { few = leb-true _ _ (all .0); roomC = leb-true _ _ (all .1); roomN = leb-true _ _ (all .2); fits = leb-true _ _ (all .3) }
 
     -- accepted: the scan's tokens and counts, and the texts
-    pub passed : {k : ℕ} {cs′ ns′ new ls : List ℕ} {n : StreamCounts} → n ≡ counts (classes m) → InSlices (tokens (classes m)) k cs cs′ ns ns′ → SixTexts m old new ls
+    pub passed : {k : ℕ} {cs′ ns′ new ls : List ℕ} {n : StreamCounts} → n ≡ counts (classes m)
+        → InSlices (tokens (classes m)) k cs cs′ ns ns′ → SixTexts m old new ls
         → Outputs m cs cs′ ns ns′ old new (record { refused = 0; counts = n; tokens = k; lengths = ls })
     passed h w s =
         let y : passNo m cs ns old ≡ 0 = sym e ∙ z in
@@ -243,7 +274,8 @@ module _ (m cs ns old : List ℕ) {no : ℕ} (e : no ≡ passNo m cs ns old) whe
         }
 
 -- the tokens that the scan wrote
-pub tokened : {m cs cs′ ns ns′ old : List ℕ} {k : ℕ} → InSlices (tokens (classes m)) k cs cs′ ns ns′ → length m ≤ 1048576 → length (endToEnd passKinds m) ≤ length old
+pub tokened : {m cs cs′ ns ns′ old : List ℕ} {k : ℕ} → InSlices (tokens (classes m)) k cs cs′ ns ns′
+    → length m ≤ 1048576 → length (endToEnd passKinds m) ≤ length old
     → Tokened m (take k cs′) (take k ns′) old
 tokened {m = m} {cs′ = cs′} {ns′ = ns′} {k = k} w h room =
     record {

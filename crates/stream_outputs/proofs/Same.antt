@@ -15,8 +15,7 @@ module _ (a b : List ℕ) (e : classes a ≡ classes b) where
   same-outputs p q =
       let l = same-length a b e in
       let t = same-texts passKinds a b e in
-      let n = same-lengths passKinds a b e in
-      (
+      let n = same-lengths passKinds a b e in (
         p .answer ∙ rw (l, e, t, n) (sym (q .answer)),
         p .inClasses ∙ rw (l, e, t) (sym (q .inClasses)),
         p .inLengths ∙ rw (l, e, t) (sym (q .inLengths)),

@@ -30,7 +30,8 @@ loop-less c = omega arith
 loop-again : tie.Need-loop-again Inv-loop μ-loop
 loop-again c =
     let l = c .before .before .before in
-    next _ _ _ _ (l .level-at .result) (l .level-at .ensures) (c .before .before .text-due .ensures) (l .before .loop .inv) (c .before .if1 .left) (c .if2 .left)
+    next _ _ _ _ (l .level-at .result) (l .level-at .ensures) (c .before .before .text-due .ensures) (l .before .loop .inv)
+    (c .before .if1 .left) (c .if2 .left)
 
 returns : tie.Need-returns Inv-loop μ-loop
 returns c =
@@ -40,7 +41,8 @@ returns c =
 returns-2 : tie.Need-returns-2 Inv-loop μ-loop
 returns-2 c =
     let l = c .before .before .before in
-    none _ _ _ _ (l .level-at .result) (l .level-at .ensures) (c .before .before .text-due .ensures) (l .before .loop .inv) (c .before .if1 .left) (c .if2 .taken)
+    none _ _ _ _ (l .level-at .result) (l .level-at .ensures) (c .before .before .text-due .ensures) (l .before .loop .inv)
+    (c .before .if1 .left) (c .if2 .taken)
 
 pub choose-spec : {M : Type 1} → statement M
 choose-spec =

@@ -1,7 +1,7 @@
 -- `label::label` meets its contract.
 -- Assumes nothing.
 use mathlib.Core.Path.{sym, _∙_}
-use Rattle.label.proofs.Answers.{said-no, said-yes, breakdown-room}
+use Rattle.chart_texts.proofs.Answers.{said-no, said-yes, breakdown-room}
 use Rattle.label.proofs.Levels.{label-1, label-6, label-4, label-0}
 use borrow.Author.Needs.{needs}
 use Rattle.label.proofs.label.Statement.{statement}
@@ -40,7 +40,8 @@ returns-3 : tie.Need-returns-3
 returns-3 c =
     let l = c .before .before .before .before in
     rw (c .refused3 .ensures)
-    (label-4 _ _ _ (l .before .before .before .if1 .left) _ (sym (l .level .given .1) ∙ l .before .before .choose .ensures) (said-no (c .before .before .text-fits .ensures) (c .before .if2 .taken)))
+    (label-4 _ _ _ (l .before .before .before .if1 .left) _ (sym (l .level .given .1) ∙ l .before .before .choose .ensures)
+    (said-no (c .before .before .text-fits .ensures) (c .before .if2 .taken)))
 
 put-text-requires : tie.Need-put-text-requires
 put-text-requires c κs =
@@ -57,8 +58,8 @@ returns-4 : tie.Need-returns-4
 returns-4 c =
     let f = c .before .before .before .before .before in
     let l = f .before .before .before in
-    label-0 _ _ _ (l .before .before .before .if1 .left) _ (sym (l .level .given .1) ∙ l .before .before .choose .ensures) (said-yes (f .before .text-fits .ensures) (f .if2 .left))
-    (c .before .before .before .put-text .ensures) (c .level-number .ensures)
+    label-0 _ _ _ (l .before .before .before .if1 .left) _ (sym (l .level .given .1) ∙ l .before .before .choose .ensures)
+    (said-yes (f .before .text-fits .ensures) (f .if2 .left)) (c .before .before .before .put-text .ensures) (c .level-number .ensures)
 
 pub label-spec : {M : Type 1} → statement M
 label-spec =

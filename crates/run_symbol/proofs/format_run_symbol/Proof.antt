@@ -29,8 +29,7 @@ slice-aggregate-put-run c = search needs
 
 put-run-requires : tie.Need-put-run-requires
 put-run-requires c κs =
-    let k = c .before .before .before .before .before .before .before in
-    (
+    let k = c .before .before .before .before .before .before .before in (
       omega arith,
       c .before .before .before .words .ensures,
       omega (arith, k .class-number .ensures, number-low (k .before .before .args .class)),

@@ -18,7 +18,9 @@ answered c = let a = c .before .before .before .before .before .args in c .first
 first-no-requires : tie.Need-first-no-requires
 first-no-requires c κs = search needs
 
-accepted : (c : tie.After-first-no) → c .first-no .result ≡ 0 → let a = c .before .before .before .before .before .args in Fitting (a .m .now) (a .classes .now) (a .lengths .now) (a .out .now)
+accepted : (c : tie.After-first-no) → c .first-no .result ≡ 0 →
+    let a = c .before .before .before .before .before .args in
+    Fitting (a .m .now) (a .classes .now) (a .lengths .now) (a .out .now)
 accepted c z = let a = c .before .before .before .before .before .args in fitting (a .m .now) (a .classes .now) (a .lengths .now) (a .out .now) (answered c) z
 
 refused-requires : tie.Need-refused-requires
@@ -47,7 +49,8 @@ slice-aggregate-put-texts-2 c = sym (length-take-le _ _ (withinN (c .before .bef
 
 put-texts-requires : tie.Need-put-texts-requires
 put-texts-requires c κs =
-    let f = accepted (c .before .before .before .before .before .before .before .before .before .before .before .before .before) (c .before .before .before .before .before .before .before .before .before .before .before .before .if1 .left) in
+    let no = c .before .before .before .before .before .before .before .before .before .before .before .before in
+    let f = accepted (no .before) (no .if1 .left) in
     tokened (c .before .before .before .before .before .before .before .before .before .scan .ensures .written) (f .few) (f .fits)
 
 same-length : tie.Need-same-length
@@ -62,7 +65,8 @@ same-length-3 c = search needs
 returns-2 : tie.Need-returns-2
 returns-2 c =
     let s = c .before .before .before .before .before .before .before .before .before .before .before .before .scan .ensures in
-    passed _ _ _ _ (answered (c .before .before .before .before .before .before .before .before .before .before .before .before .before .before .before .before)) (c .before .before .before .before .before .before .before .before .before .before .before .before .before .before .before .if1 .left) (s .counted) (s .written) (c .before .before .put-texts .ensures)
+    let no = c .before .before .before .before .before .before .before .before .before .before .before .before .before .before .before in
+    passed _ _ _ _ (answered (no .before)) (no .if1 .left) (s .counted) (s .written) (c .before .before .put-texts .ensures)
 
 pub compute-stream-outputs-spec : {M : Type 1} → statement M
 compute-stream-outputs-spec =

@@ -29,13 +29,18 @@ text-of-tokens-requires c κs =
     (source (p .0), g .ready, next-room (p .0) g (c .before .before .before .loop-test .taken) (c .before .before .pass-form .ensures))
 
 between-requires : tie.Need-between-requires Inv-loop μ-loop
-between-requires c κs = next-between (c .before .before .before .before .before .before .before .before .before .before .before .before .before .before .before .pre .0) (c .before .before .before .before .before .before .before .before .before .loop .inv .0) (c .before .before .before .before .before .before .before .before .loop-test .taken) (c .before .before .before .before .before .before .before .pass-form .ensures) (c .before .before .before .before .text-of-tokens .ensures)
+between-requires c κs =
+    let l = c .before .before .before .before .before .before .before .before in
+    next-between (l .before .before .before .before .before .before .before .pre .0) (l .before .loop .inv .0) (l .loop-test .taken)
+    (c .before .before .before .before .before .before .before .pass-form .ensures) (c .before .before .before .before .text-of-tokens .ensures)
 
 mul-lengths : tie.Need-mul-lengths Inv-loop μ-loop
 mul-lengths c = omega (arith, c .before .before .before .before .before .before .before .before .before .loop-test .taken)
 
 array-write-lengths : tie.Need-array-write-lengths Inv-loop μ-loop
-array-write-lengths c = omega (arith, c .before .before .before .before .before .before .before .before .before .loop-test .taken, c .before .before .before .before .before .before .before .before .before .before .loop .inv .0 .six)
+array-write-lengths c =
+    let l = c .before .before .before .before .before .before .before .before .before in
+    omega (arith, l .loop-test .taken, l .before .loop .inv .0 .six)
 
 add-i : tie.Need-add-i Inv-loop μ-loop
 add-i c = omega (arith, c .before .before .before .before .before .before .before .before .before .loop-test .taken)
@@ -44,19 +49,32 @@ loop-less : tie.Need-loop-less Inv-loop μ-loop
 loop-less c = omega (arith, c .before .before .before .before .before .before .before .before .before .loop-test .taken)
 
 loop-again : tie.Need-loop-again Inv-loop μ-loop
-loop-again c = (going-on (c .before .before .before .before .before .before .before .before .before .before .before .before .before .before .before .before .pre .0) (c .before .before .before .before .before .before .before .before .before .before .loop .inv .0) (c .before .before .before .before .before .before .before .before .before .loop-test .taken) (c .before .before .before .before .before .before .before .before .pass-form .ensures) (c .before .before .before .before .before .text-of-tokens .ensures) _ (c .between .ensures), omega (arith, c .before .before .before .before .before .before .before .before .before .loop-test .taken))
+loop-again c =
+    let f = c .before .before .before .before .before .before .before .before in
+    let l = f .before in (
+      going-on (l .before .before .before .before .before .before .before .pre .0) (l .before .loop .inv .0) (l .loop-test .taken) (f .pass-form .ensures)
+          (c .before .before .before .before .before .text-of-tokens .ensures) _ (c .between .ensures),
+      omega (arith, l .loop-test .taken),
+    )
 
 put-buffer-requires : tie.Need-put-buffer-requires Inv-loop μ-loop
-put-buffer-requires c κs = let i = c .before .before .before .loop .inv in last-room (c .before .before .before .before .before .before .before .before .before .pre .0) (i .0) (c .before .before .loop-test .left) (i .1)
+put-buffer-requires c κs =
+    let i = c .before .before .before .loop .inv in
+    last-room (c .before .before .before .before .before .before .before .before .before .pre .0) (i .0) (c .before .before .loop-test .left) (i .1)
 
 same-length : tie.Need-same-length Inv-loop μ-loop
 same-length c = c .before .before .before .before .before .before .loop .inv .0 .wrote .long
 
 same-length-2 : tie.Need-same-length-2 Inv-loop μ-loop
-same-length-2 c = wrote-length _ [] (c .before .before .put-buffer .ensures) ∙ added-out _ (c .before .before .before .before .before .before .loop .inv .0 .wrote)
+same-length-2 c =
+    let i = c .before .before .before .before .before .before .loop .inv in
+    wrote-length _ [] (c .before .before .put-buffer .ensures) ∙ added-out _ (i .0 .wrote)
 
 returns : tie.Need-returns Inv-loop μ-loop
-returns c = let i = c .before .before .before .before .before .before .loop .inv in going-ends (c .before .before .before .before .before .before .before .before .before .before .before .before .pre .0) (i .0) (c .before .before .before .before .before .loop-test .left) (i .1) (c .before .before .put-buffer .ensures)
+returns c =
+    let i = c .before .before .before .before .before .before .loop .inv in
+    let l = c .before .before .before .before .before in
+    going-ends (l .before .before .before .before .before .before .before .pre .0) (i .0) (l .loop-test .left) (i .1) (c .before .before .put-buffer .ensures)
 
 pub put-six-spec : {M : Type 1} → statement M
 put-six-spec =

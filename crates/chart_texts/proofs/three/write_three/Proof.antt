@@ -20,21 +20,23 @@ refused-requires-2 c κs = search needs
 
 returns-2 : tie.Need-returns-2
 returns-2 c =
-    let f = c .before in
-    rw (c .refused2 .ensures) (three-4 _ _ _ _ _ (f .before .before .if1 .left) (said-no (f .before .texts-fit .ensures) (f .if2 .taken)))
+    rw (c .refused2 .ensures)
+    (three-4 _ _ _ _ _ (c .before .before .before .if1 .left) (said-no (c .before .before .texts-fit .ensures) (c .before .if2 .taken)))
 
 put-text-requires : tie.Need-put-text-requires
 put-text-requires c κs = room-1 _ _ _ _ _ (c .before .before .before .if1 .left) (said-yes (c .before .before .texts-fit .ensures) (c .before .if2 .left))
 
 put-text-requires-2 : tie.Need-put-text-requires-2
 put-text-requires-2 c κs =
-    let f = c .before .before .before .before .before in
-    room-2 _ _ _ _ _ (f .before .before .if1 .left) (said-yes (f .before .texts-fit .ensures) (f .if2 .left)) (c .before .before .before .put-text .ensures)
+    room-2 _ _ _ _ _ (c .before .before .before .before .before .before .before .if1 .left)
+    (said-yes (c .before .before .before .before .before .before .texts-fit .ensures) (c .before .before .before .before .before .if2 .left))
+    (c .before .before .before .put-text .ensures)
 
 put-text-requires-3 : tie.Need-put-text-requires-3
 put-text-requires-3 c κs =
-    let f = c .before .before .before .before .before .before .before .before .before in
-    room-3 _ _ _ _ _ (f .before .before .if1 .left) (said-yes (f .before .texts-fit .ensures) (f .if2 .left))
+    room-3 _ _ _ _ _ (c .before .before .before .before .before .before .before .before .before .before .before .if1 .left)
+    (said-yes (c .before .before .before .before .before .before .before .before .before .before .texts-fit .ensures)
+    (c .before .before .before .before .before .before .before .before .before .if2 .left))
     (c .before .before .before .before .before .before .before .put-text .ensures) (c .before .before .before .put-text2 .ensures)
 
 sub-t9 : tie.Need-sub-t9
@@ -48,10 +50,11 @@ same-length c = search needs
 
 returns-3 : tie.Need-returns-3
 returns-3 c =
-    let f = c .before .before .before .before .before .before .before .before .before .before .before .before in
-    let b = c .before .before .before .before .before .before in
-    three-0 _ _ _ _ _ (f .before .before .if1 .left) (said-yes (f .before .texts-fit .ensures) (f .if2 .left))
-    (b .before .before .before .before .put-text .ensures) (b .put-text2 .ensures) (c .before .before .put-text3 .ensures)
+    three-0 _ _ _ _ _ (c .before .before .before .before .before .before .before .before .before .before .before .before .before .before .if1 .left)
+    (said-yes (c .before .before .before .before .before .before .before .before .before .before .before .before .before .texts-fit .ensures)
+    (c .before .before .before .before .before .before .before .before .before .before .before .before .if2 .left))
+    (c .before .before .before .before .before .before .before .before .before .before .put-text .ensures)
+    (c .before .before .before .before .before .before .put-text2 .ensures) (c .before .before .put-text3 .ensures)
 
 pub write-three-spec : {M : Type 1} → statement M
 write-three-spec =
