@@ -1,4 +1,4 @@
-pub mod Texts
+mod Texts
 pub mod Answers
-pub mod EndToEnd
+mod EndToEnd
 pub mod Same

@@ -1,2 +1,2 @@
-pub mod Levels
+mod Levels
 pub mod Same

@@ -1,3 +1,3 @@
-pub mod Pass
-pub mod FewTokens
+mod Pass
+mod FewTokens
 pub mod Same
