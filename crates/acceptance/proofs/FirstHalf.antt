@@ -8,7 +8,9 @@ use Rattle.rules.proofs.Demand.{same-classes}
 use Rattle.measures.proofs.Answers.{same-counts, same-share, same-alike}
 use Rattle.token_view.proofs.Same as token-view
 use Rattle.segments.proofs.Same as segments
-use Rattle.streams.proofs.Same.{same-breakdown, same-breakdowns, same-outputs, same-label}
+use Rattle.chart_texts.proofs.Same.{same-breakdown, same-breakdowns}
+use Rattle.label.proofs.Same.{same-label}
+use Rattle.stream_outputs.proofs.Same.{same-outputs}
 use Rattle.sheet_lines.proofs.Same.{same-sheet}
 use Rattle.acceptance.specs.FirstHalf.{OfCharts, FirstHalf}
 

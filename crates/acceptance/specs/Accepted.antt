@@ -24,10 +24,12 @@ use Rattle.segments.specs.declared.SegmentsAnswer.{SegmentsAnswer}
 use Rattle.record.specs.Record.{fieldsOf, densities, nameOf}
 use Rattle.record.specs.Promises.{ReadRecord}
 use Rattle.record.specs.declared.RecordAnswer.{RecordAnswer}
-use Rattle.streams.specs.Promises.{Breakdowns, Outputs, labelText, labelLevel, Label, pairChoice}
-use Rattle.streams.specs.declared.ThreeWritten.{ThreeWritten}
-use Rattle.streams.specs.declared.StreamOutputs.{StreamOutputs}
-use Rattle.streams.specs.declared.LabelWritten.{LabelWritten}
+use Rattle.chart_texts.specs.Promises.{Breakdowns}
+use Rattle.label.specs.Promises.{labelText, labelLevel, Label, pairChoice}
+use Rattle.stream_outputs.specs.Promises.{Outputs}
+use Rattle.chart_texts.specs.declared.ThreeWritten.{ThreeWritten}
+use Rattle.stream_outputs.specs.declared.StreamOutputs.{StreamOutputs}
+use Rattle.label.specs.declared.LabelWritten.{LabelWritten}
 use Rattle.sheet_lines.specs.Sheet.{sheetBytes, Printed}
 use Rattle.sheet_lines.specs.declared.Sheet.{Sheet}
 

@@ -15,10 +15,12 @@ use Rattle.token_view.specs.Promises.{nthAnswer}
 use Rattle.token_view.specs.Steps.{Stepped}
 use Rattle.segments.specs.Promises.{Segmented, nthSegment, placed}
 use Rattle.segments.specs.declared.SegmentsAnswer.{SegmentsAnswer}
-use Rattle.streams.specs.Promises.{Breakdown, Breakdowns, Outputs, Label}
-use Rattle.streams.specs.declared.ThreeWritten.{ThreeWritten}
-use Rattle.streams.specs.declared.StreamOutputs.{StreamOutputs}
-use Rattle.streams.specs.declared.LabelWritten.{LabelWritten}
+use Rattle.chart_texts.specs.Promises.{Breakdown, Breakdowns}
+use Rattle.label.specs.Promises.{Label}
+use Rattle.stream_outputs.specs.Promises.{Outputs}
+use Rattle.chart_texts.specs.declared.ThreeWritten.{ThreeWritten}
+use Rattle.stream_outputs.specs.declared.StreamOutputs.{StreamOutputs}
+use Rattle.label.specs.declared.LabelWritten.{LabelWritten}
 use Rattle.record.specs.Alike.{Alike}
 use Rattle.sheet_lines.specs.Sheet.{Printed}
 use Rattle.sheet_lines.specs.declared.Sheet.{Sheet}

@@ -2,20 +2,20 @@
 use crate::line::print_number;
 use crate::line::print_numbers;
 use crate::line::print_slice;
+use chart_texts::ThreeWritten;
+use chart_texts::single::generate_breakdown;
+use chart_texts::single::stream_breakdown;
+use chart_texts::three::generate_breakdowns;
+use chart_texts::three::stream_breakdowns;
+use label::LabelWritten;
+use label::label;
 use libc::STDOUT_FILENO;
 use number::Written;
 use number::push_u64;
 use rules::BreakdownMode;
 use rules::RunDensity;
 use rules::StreamBreakdownLevel;
-use streams::LabelWritten;
-use streams::ThreeWritten;
-use streams::label::label;
-use streams::single::generate_breakdown;
-use streams::single::stream_breakdown;
-use streams::symbol::format_run_symbol;
-use streams::three::generate_breakdowns;
-use streams::three::stream_breakdowns;
+use run_symbol::format_run_symbol;
 ghost use Prim.Native.Nat.{_≤_};
 
 pub enum Call {

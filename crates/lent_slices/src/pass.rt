@@ -5,8 +5,8 @@ use crate::line::print_numbers;
 use crate::line::print_slice;
 use libc::STDOUT_FILENO;
 use rules::StreamCounts;
-use streams::StreamOutputs;
-use streams::outputs::compute_stream_outputs;
+use stream_outputs::StreamOutputs;
+use stream_outputs::compute_stream_outputs;
 ghost use Prim.Native.Nat.{_≤_};
 
 // The length of all six texts.

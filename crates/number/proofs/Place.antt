@@ -44,6 +44,12 @@ module _ {old : List ℕ} {at : ℕ} where
 pub at-start : (xs old new : List ℕ) (r : ℕ) → length xs ≤ length old → Wrote old new 0 xs r → (r ≡ length xs) × (new ≡ filled old xs)
 at-start xs old new r h g = (g .next ∙ zero-add (length xs), g .bytes ∙ sets-eq xs old 0 (rw zero-add h) ∙ rw zero-add)
 
+-- what an accepted call that wrote one text answers and leaves
+pub one-text : (xs old new : List ℕ) (r : ℕ) → length xs ≤ length old → Wrote old new 0 xs r → OneText 0 xs old new (record { refused = 0; length = r })
+one-text xs old new r h g =
+    let s = at-start xs old new r h g in
+    record { answer = ap (λ (k : ℕ). record { refused = 0; length = k }) (s .0); bytes = s .1 }
+
 -- what a call that was lent the part from `at` on has written there
 module _ (xs old last : List ℕ) (at : ℕ) (r : Written) (room : Room old at xs) where
   abbrev part : List ℕ
@@ -62,8 +68,9 @@ module _ (xs old last : List ℕ) (at : ℕ) (r : Written) (room : Room old at x
     pub part-wrote : Wrote old (putMid at (length old - at) old last) at xs (at + r .length)
     part-wrote =
         let e : last ≡ xs ++ drop (length xs) (drop at old) = rw (room-had, whole) at (p .bytes) in
+        let nothing : drop (at + (length old - at)) old ≡ [] = drop-of-length-le old {i = at + (length old - at)} (omega (arith, room .fits)) in
         record {
           next = ap (λ (n : ℕ). at + n) part-length;
-          bytes = rw (sets-eq xs old at (room .fits), e, drop-drop (length xs) at old, drop-drop (length old - at) at old, drop-of-length-le old {i = at + (length old - at)} (omega (arith, room .fits)), append-nil)
+          bytes = rw (sets-eq xs old at (room .fits), e, drop-drop (length xs) at old, drop-drop (length old - at) at old, nothing, append-nil)
               (sym (append-assoc (take at old) xs (drop (at + length xs) old)));
         }

@@ -7,8 +7,8 @@ use native.Mathlib.Omega.{arith}
 use Rattle.number.specs.declared.Written.{Written}
 use Rattle.rules.specs.Chart.{classes}
 use Rattle.rules.specs.declared.Kind.{Kind}
-use Rattle.streams.specs.Promises.{Breakdown}
-use Rattle.streams.proofs.Same.{same-breakdown}
+use Rattle.chart_texts.specs.Promises.{Breakdown}
+use Rattle.chart_texts.proofs.Same.{same-breakdown}
 use Rattle.puvolamie_c.specs.Numbers.{Meant, kind, none, OneKind}
 
 -- First half: charts of equal classes, the same number and equal lent bytes give equal answers and bytes

@@ -8,7 +8,7 @@ use lib.Dec.{leb}
 use lib.ListN.{length}
 use lib.Seq.{take-length}
 use Rattle.rules.specs.Chart.{activePart}
-use Rattle.streams.specs.Promises.{pairChoice}
+use Rattle.label.specs.Promises.{pairChoice}
 use Rattle.puvolamie_c.specs.Parts.{activeRange, within, pairPart, pairBytes}
 
 pub active-range : (m : List ℕ) → within (activeRange m) m ≡ activePart m

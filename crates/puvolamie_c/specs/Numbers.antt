@@ -13,7 +13,7 @@ use Rattle.rules.specs.declared.RunDensity.the-variants.{Run32, Run24, Run20, R
 use Rattle.rules.specs.declared.BreakdownMode.{BreakdownMode}
 use Rattle.rules.specs.declared.BreakdownMode.the-variants as Mode
 use Rattle.rules.specs.declared.StreamBreakdownLevel.the-variants as Level
-use Rattle.streams.specs.Promises.{Breakdown}
+use Rattle.chart_texts.specs.Promises.{Breakdown}
 
 -- the class with the paper's number; a number that stands for none is no stream class
 abbrev pub classAt : ℕ → RunDensity

@@ -2,7 +2,7 @@
 use chart_list::line::put_bytes;
 use libc::STDOUT_FILENO;
 use rules::RunDensity;
-use streams::symbol::format_run_symbol;
+use run_symbol::format_run_symbol;
 
 // Changes of the number of digits, one past 32 bits, the largest.
 const LENGTHS: [u64; 7] = [0, 9, 10, 99, 100, 4294967296, 18446744073709551615];

@@ -1,13 +1,13 @@
 // The calls for one text and for three, each lent a slice that the text of the pass fills.
+use chart_texts::ThreeWritten;
+use chart_texts::single::generate_breakdown;
+use chart_texts::single::stream_breakdown;
+use chart_texts::three::generate_breakdowns;
+use chart_texts::three::stream_breakdowns;
 use libc::STDOUT_FILENO;
 use number::Written;
 use rules::BreakdownMode;
 use rules::StreamBreakdownLevel;
-use streams::ThreeWritten;
-use streams::single::generate_breakdown;
-use streams::single::stream_breakdown;
-use streams::three::generate_breakdowns;
-use streams::three::stream_breakdowns;
 ghost use Prim.Native.Nat.{_≤_};
 
 // Do two slices hold the same bytes?

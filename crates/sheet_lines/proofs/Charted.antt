@@ -17,8 +17,9 @@ use Rattle.rules.specs.declared.Kind.the-variants.{Standard as standard}
 use Rattle.rules.specs.Texts.{text, passKinds, endToEnd, lengthsOf}
 use Rattle.rules.specs.declared.StreamCounts.{StreamCounts}
 use Rattle.rules.specs.declared.StreamBreakdownLevel.the-variants as Level
-use Rattle.streams.specs.Promises.{passNo, Outputs, Breakdown}
-use Rattle.streams.specs.declared.StreamOutputs.{StreamOutputs}
+use Rattle.chart_texts.specs.Promises.{Breakdown}
+use Rattle.stream_outputs.specs.Promises.{passNo, Outputs}
+use Rattle.stream_outputs.specs.declared.StreamOutputs.{StreamOutputs}
 use Rattle.sheet_lines.specs.Sheet.{places, textBytes, totalBytes, firstRefusal, totalNo, line, countsLine, sheetKinds, textLines}
 use Rattle.sheet_lines.specs.Steps.{AtStart, NameRoom, LinesRoom, refusalLine, sum, cutLines, allLines, textsNo, chartBytes}
 use Rattle.sheet_lines.proofs.Bound.{counts-short, sum-lengths, lines-length}

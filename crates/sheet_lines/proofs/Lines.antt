@@ -15,7 +15,7 @@ use Rattle.rules.specs.Chart.{classes, counts, countNumbers}
 use Rattle.rules.specs.declared.StreamCounts.{StreamCounts}
 use Rattle.rules.proofs.Lines.{OneLine, digits-line}
 use Rattle.record.specs.Record.{Fields, end, cut, whole, fieldsOf, printable, isName, fieldNo, fieldsNo, nameOf, recordNo}
-use Rattle.streams.specs.Promises.{passNo}
+use Rattle.stream_outputs.specs.Promises.{passNo}
 use Rattle.sheet_lines.specs.Sheet.{inputFits, places, textBytes, totalBytes, firstRefusal, chartOf, totalNo, sheetNo}
 use Rattle.sheet_lines.specs.Sheet.{line, partedBySpaces, countsLine, sheetKinds, textLines, sheetBytes}
 

@@ -12,7 +12,7 @@ use Rattle.record.specs.Record.{fieldsOf, nameOf, recordNo}
 use Rattle.record.specs.Promises.{ReadRecord}
 use Rattle.record.specs.declared.RecordAnswer.{RecordAnswer}
 use Rattle.record.proofs.Name.{name-at, named}
-use Rattle.streams.specs.Promises.{passNo}
+use Rattle.stream_outputs.specs.Promises.{passNo}
 use Rattle.sheet_lines.specs.Sheet.{places, textBytes, totalBytes, totalNo, chartOf, sheetNo, sheetBytes, Printed}
 use Rattle.sheet_lines.specs.declared.Sheet.{Sheet}
 use Rattle.sheet_lines.specs.Steps.{AtStart, Roomy, NameRoom, refusalLine, textsNo, chartBytes}

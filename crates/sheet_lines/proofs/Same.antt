@@ -16,7 +16,7 @@ use Rattle.rules.specs.declared.StreamBreakdownLevel.the-variants as Level
 use Rattle.rules.proofs.Demand.{same-length, same-text, same-texts}
 use Rattle.record.specs.Alike.{Alike}
 use Rattle.record.proofs.Same.{same-no}
-use Rattle.streams.specs.Promises.{passNo}
+use Rattle.stream_outputs.specs.Promises.{passNo}
 use Rattle.sheet_lines.specs.Sheet.{places, textBytes, totalBytes, firstRefusal, chartOf, totalNo, sheetNo}
 use Rattle.sheet_lines.specs.Sheet.{line, countsLine, sheetKinds, textLines, sheetBytes}
 

@@ -15,7 +15,7 @@ use Rattle.rules.specs.Texts.{text, passKinds}
 use Rattle.rules.specs.declared.StreamCounts.{StreamCounts}
 use Rattle.rules.specs.declared.StreamBreakdownLevel.the-variants as Level
 use Rattle.record.specs.Record.{fieldsOf, densities, nameOf, recordNo}
-use Rattle.streams.specs.Promises.{passNo}
+use Rattle.stream_outputs.specs.Promises.{passNo}
 use Rattle.sheet_lines.specs.declared.Sheet.{Sheet}
 
 -- Input at most 16,384 bytes? 13

@@ -10,7 +10,7 @@ use Rattle.number.specs.Place.{Room}
 use Rattle.rules.specs.Bytes.{bytes}
 use Rattle.rules.specs.Chart.{classes, counts}
 use Rattle.rules.specs.declared.StreamCounts.{StreamCounts}
-use Rattle.streams.specs.Promises.{passNo}
+use Rattle.stream_outputs.specs.Promises.{passNo}
 use Rattle.sheet_lines.specs.Sheet.{places, textBytes, totalBytes, firstRefusal, totalNo, line, partedBySpaces, countsLine, sheetKinds, textLines}
 
 -- the bytes xs at the slice's start, later places as they were; r is their number

@@ -3,10 +3,10 @@ use crate::put::put_counts;
 use crate::put::put_line;
 use crate::put::put_refusal;
 use crate::put::put_texts;
+use chart_texts::single::stream_breakdown;
 use rules::StreamBreakdownLevel;
 use rules::StreamCounts;
-use streams::outputs::compute_stream_outputs;
-use streams::single::stream_breakdown;
+use stream_outputs::compute_stream_outputs;
 ghost use Rattle.sheet_lines.specs.Steps.{AtStart, NameRoom, LinesRoom, allLines, chartBytes};
 
 // Name, counts, the texts that stand end to end in `texts`, Total.

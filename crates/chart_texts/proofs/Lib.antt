@@ -1,0 +1,4 @@
+mod Texts
+pub mod Answers
+mod EndToEnd
+pub mod Same

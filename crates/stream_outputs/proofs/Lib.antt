@@ -1,0 +1,3 @@
+mod Pass
+mod FewTokens
+pub mod Same
