@@ -1,16 +1,11 @@
--- Laws of `Grown`: one text after the other, and a text of which a part is kept, or nothing.
+-- A word in a buffer: of its four bytes those that count are kept. The other laws of `Grown` are those of crate `number`.
 -- Assumes nothing.
-use Prim.Native.Nat.{ℕ, zero, suc, _+_, _-_, _/_, _%_, _≤_, _<_}
-use mathlib.Core.Path.{_≡_, refl, sym, ap, _∙_}
-use mathlib.Core.List.{List, [], _∷_, _++_, append-assoc, append-nil}
-use native.Mathlib.Nat.{add-zero}
-use native.Mathlib.Numerals.{add-one}
+use Prim.Native.Nat.{ℕ, zero, suc, _+_, _≤_}
+use mathlib.Core.Path.{_≡_, refl, _∙_}
+use mathlib.Core.List.{List, [], _∷_}
 use native.Mathlib.Omega.{arith}
-use lib.ListN.{length, take, drop, set, length-append, length-set, length-take}
-use lib.Seq.{length-take-le, length-sets, sets-eq, take-suc-set, take-take, take-append-add, take-at}
-use Rattle.number.specs.Digits.{digits}
-use Rattle.number.specs.Place.{Room, Wrote}
-use Rattle.number.proofs.Digits.{digits-more, length-more}
+use lib.ListN.{length, take, set, length-set}
+pub use Rattle.number.proofs.Grown.{grown-none, wrote-grown, grown, within, kept, dropped, but-last, stored, stored-two}
 use Rattle.text_buffer.specs.Buffer.{Grown}
 use Rattle.text_buffer.specs.Words.{Word, wordText}
 
