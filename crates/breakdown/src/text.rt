@@ -48,7 +48,7 @@ fn text_part(
     signs: bool,
     dense: bool,
     run: Run,
-    words: &[u32; 192],
+    words: &[u32; 92],
     buf: &mut [u8],
     out: &mut [u8],
     place: usize,
@@ -84,7 +84,7 @@ fn form_part(
     ns: &[u32],
     form: Form,
     run: Run,
-    words: &[u32; 192],
+    words: &[u32; 92],
     buf: &mut [u8],
     out: &mut [u8],
     to: Left,
@@ -132,7 +132,7 @@ fn add_none(form: Form, buf: &mut [u8], k: usize) -> usize
 }
 
 // The last run or piece.
-fn add_last(done: Done, words: &[u32; 192], buf: &mut [u8], out: &mut [u8]) -> Left
+fn add_last(done: Done, words: &[u32; 92], buf: &mut [u8], out: &mut [u8]) -> Left
     requires { ⌜ Ready (now buf) (done .to .left) (now words) × (done .run .class ≤ 4) × Room (now out) (done .to .place) (take (done .to .left) (now buf) ++ runText (done .run)) ⌝ }
     ensures { λ r. ⌜ Added (now (buf .entry)) (now (out .entry)) (done .to) (runText (done .run)) (now (buf .exit)) (now (out .exit)) r ⌝ }
 {
@@ -148,7 +148,7 @@ pub fn text_of_tokens(
     ns: &[u32],
     form: Form,
     dense: bool,
-    words: &[u32; 192],
+    words: &[u32; 92],
     buf: &mut [u8],
     out: &mut [u8],
     from: Left,
@@ -193,7 +193,7 @@ pub fn text_of_measures(m: &[u32], form: Form, out: &mut [u8], at: usize) -> usi
 fn measures_text(
     m: &[u32],
     form: Form,
-    words: &[u32; 192],
+    words: &[u32; 92],
     buf: &mut [u8],
     out: &mut [u8],
     at: usize,

@@ -5,3 +5,4 @@ pub mod Digits
 pub mod Read
 pub mod Push
 pub mod Place
+pub mod Grown

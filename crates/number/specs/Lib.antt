@@ -1,4 +1,5 @@
 pub mod Digits
 pub mod Questions
 pub mod Place
+pub mod Grown
 pub mod Pushed

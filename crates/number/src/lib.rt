@@ -1,4 +1,5 @@
 // The number writer: a u64 in base ten.
+pub mod buffer;
 ghost use Rattle.number.specs.Digits.{digits};
 ghost use Rattle.number.specs.Place.{Room, Wrote};
 ghost use Rattle.number.specs.Pushed.{DigitCount, Pushed};
@@ -33,8 +34,8 @@ const POWERS: [u64; 20] = [
     10000000000000000000,
 ];
 
-// How many digits `n` has: as many as the place of the first power of ten above it.
-pub fn digit_count(n: u64) -> usize
+// As many digits as the place of the first power of ten above `n`, walked from the small end.
+fn power_above(n: u64) -> usize
     ensures { λ r. ⌜ DigitCount n r ⌝ }
 {
     // Named inside the loop, the table would be built anew at each turn.
@@ -47,6 +48,16 @@ pub fn digit_count(n: u64) -> usize
         k += 1;
     }
     20
+}
+
+// How many digits `n` has. Below 100, as most numbers of a text are, no power is looked up.
+pub fn digit_count(n: u64) -> usize
+    ensures { λ r. ⌜ DigitCount n r ⌝ }
+{
+    if n >= 100 {
+        return power_above(n);
+    }
+    if n < 10 { 1 } else { 2 }
 }
 
 // `n` in base ten at the start of `out`, refused with 4 where `out` is shorter than that.

@@ -33,7 +33,7 @@ struct Turns {
 }
 
 // The next run right behind the open one, which is written: in no text do they join.
-fn adjacent_turn(buf: &mut [u8], k: usize, last: Run, next: Run, words: &[u32; 192]) -> Turn
+fn adjacent_turn(buf: &mut [u8], k: usize, last: Run, next: Run, words: &[u32; 92]) -> Turn
     requires { ⌜ (k + 52 ≤ length (now buf)) × Words (now words) × (last .class ≢ 0) × (last .class ≤ 4) × (next .class ≢ 0) ⌝ }
     ensures { λ r. ⌜ ((limit : ℕ) → Turned limit (runToken last) 0 (runToken next) (now (buf .entry)) k (now (buf .exit)) r) ⌝ }
 {
@@ -50,7 +50,7 @@ fn detailed_turn(
     last: Run,
     gap: u32,
     next: Run,
-    words: &[u32; 192],
+    words: &[u32; 92],
 ) -> Turn
     requires { ⌜ (k + 52 ≤ length (now buf)) × Words (now words) × (1 ≤ gap) × (last .class ≢ 0) × (last .class ≤ 4) × (next .class ≢ 0) ⌝ }
     ensures { λ r. ⌜ Turned 0 (runToken last) gap (runToken next) (now (buf .entry)) k (now (buf .exit)) r ⌝ }
@@ -70,7 +70,7 @@ fn joined_turn(
     last: Run,
     gap: u32,
     next: Run,
-    words: &[u32; 192],
+    words: &[u32; 92],
 ) -> Turn
     requires { ⌜ (k + 52 ≤ length (now buf)) × Words (now words) × (1 ≤ limit) × (last .class ≢ 0) × (last .class ≤ 4) × (next .class ≢ 0) × (last .length + (gap + next .length) < 2 ^ 64) ⌝ }
     ensures { λ r. ⌜ Turned limit (runToken last) gap (runToken next) (now (buf .entry)) k (now (buf .exit)) r ⌝ }
@@ -96,7 +96,7 @@ fn three_turns(
     cs: &[u8],
     ns: &[u32],
     first: Run,
-    words: &[u32; 192],
+    words: &[u32; 92],
     detailed: &mut [u8],
     partial: &mut [u8],
     simplified: &mut [u8],
@@ -138,7 +138,7 @@ pub fn sn_three(
     cs: &[u8],
     ns: &[u32],
     first: Run,
-    words: &[u32; 192],
+    words: &[u32; 92],
     detailed: &mut [u8],
     partial: &mut [u8],
     simplified: &mut [u8],

@@ -1,12 +1,12 @@
 // Standard texts, part by part. Detailed: limit 0, gaps by length; partial: limit 0, signs; simple: limit 1, signs.
 use crate::piece::Piece;
 use crate::piece::fill;
+use number::buffer::add_u64;
+use number::digit_count;
 use text_buffer::buffer::Left;
 use text_buffer::buffer::add_byte;
-use text_buffer::buffer::add_number;
 use text_buffer::buffer::add_word;
 use text_buffer::buffer::flush;
-use text_buffer::buffer::number_length;
 use text_buffer::gap::add_in_parens;
 use text_buffer::gap::part_word;
 use text_buffer::run::add_star;
@@ -52,24 +52,24 @@ fn first_byte(n: u32) -> u8
 }
 
 // A gap by its length: "-" for 1, else in parentheses, which are stored anyway: the place says whether they count.
-fn add_length(buf: &mut [u8], k: usize, n: u32, words: &[u32; 192]) -> usize
-    requires { ⌜ (k + 24 ≤ length (now buf)) × Words (now words) ⌝ }
+fn add_length(buf: &mut [u8], k: usize, n: u32) -> usize
+    requires { ⌜ k + 24 ≤ length (now buf) ⌝ }
     ensures { λ r. ⌜ Grown (now (buf .entry)) (now (buf .exit)) k (part (gap n)) r ⌝ }
 {
     let a = add_byte(buf, k, first_byte(n));
-    let b = add_in_parens(buf, a, n, words);
+    let b = add_in_parens(buf, a, n);
     let c = add_byte(buf, b, b' ');
     if n == 1 { a } else { c }
 }
 
-fn add_gap(buf: &mut [u8], k: usize, signs: bool, n: u32, words: &[u32; 192]) -> usize
+fn add_gap(buf: &mut [u8], k: usize, signs: bool, n: u32, words: &[u32; 92]) -> usize
     requires { ⌜ (k + 24 ≤ length (now buf)) × Words (now words) ⌝ }
     ensures { λ r. ⌜ Grown (now (buf .entry)) (now (buf .exit)) k (part (gapItem signs n)) r ⌝ }
 {
     if signs {
         return add_word(buf, k, part_word(words, n));
     }
-    add_length(buf, k, n, words)
+    add_length(buf, k, n)
 }
 
 // A piece and the gap behind it.
@@ -80,12 +80,12 @@ pub fn add_piece(
     starred: bool,
     gap: u32,
     signs: bool,
-    words: &[u32; 192],
+    words: &[u32; 92],
 ) -> usize
     requires { ⌜ (k + 45 ≤ length (now buf)) × Words (now words) ⌝ }
     ensures { λ r. ⌜ Grown (now (buf .entry)) (now (buf .exit)) k (doneText signs n starred gap) r ⌝ }
 {
-    let a = add_number(buf, k, n, words);
+    let a = add_u64(buf, k, n);
     let b = add_star(buf, a, starred);
     add_gap(buf, b, signs, gap, words)
 }
@@ -97,7 +97,7 @@ fn put_pieces(
     gaps: &[u32; 16],
     count: usize,
     signs: bool,
-    words: &[u32; 192],
+    words: &[u32; 92],
     buf: &mut [u8],
     out: &mut [u8],
     from: Left,
@@ -122,7 +122,7 @@ pub fn standard_part(
     limit: u32,
     signs: bool,
     piece: Piece,
-    words: &[u32; 192],
+    words: &[u32; 92],
     buf: &mut [u8],
     out: &mut [u8],
     from: Left,
@@ -161,7 +161,7 @@ pub fn dense_part(
     limit: u32,
     signs: bool,
     piece: Piece,
-    words: &[u32; 192],
+    words: &[u32; 92],
     buf: &mut [u8],
     out: &mut [u8],
     from: Left,
@@ -191,7 +191,7 @@ fn shown_length(signs: bool, n: u32) -> usize
     if signs {
         return if n <= 31 { 1 } else { 3 };
     }
-    let long = 4 + number_length(n as u64);
+    let long = 4 + digit_count(n as u64);
     if n == 1 { 1 } else { long }
 }
 
@@ -199,7 +199,7 @@ fn shown_length(signs: bool, n: u32) -> usize
 fn done_length(n: u64, starred: bool, signs: bool, gap: u32) -> usize
     ensures { λ r. ⌜ Measured (doneText signs n starred gap) 47 r ⌝ }
 {
-    number_length(n) + star_length(starred) + shown_length(signs, gap)
+    digit_count(n) + star_length(starred) + shown_length(signs, gap)
 }
 
 // How many bytes `standard_part` writes.

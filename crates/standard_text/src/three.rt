@@ -1,7 +1,7 @@
 // The three standard texts of a chart of few tokens in one walk: detailed, partial and simple, each in a buffer of its own.
 use crate::piece::Piece;
 use crate::standard::add_piece;
-use text_buffer::buffer::add_number;
+use number::buffer::add_u64;
 use text_buffer::run::add_star;
 use text_buffer::three::Three;
 ghost use Prim.Native.Nat.{_+_, _^_, _≤_, _<_};
@@ -36,7 +36,7 @@ fn simple_turn(
     last: Piece,
     gap: u32,
     n: u32,
-    words: &[u32; 192],
+    words: &[u32; 92],
 ) -> SimpleTurn
     requires { ⌜ (k + 45 ≤ length (now buf)) × Words (now words) × (1 ≤ gap) × (last .length + (gap + n) < 2 ^ 64) ⌝ }
     ensures { λ r. ⌜ SimpleTurned last gap n (now (buf .entry)) k (now (buf .exit)) r ⌝ }
@@ -82,7 +82,7 @@ fn gap_turn(
     t: PieceTurns,
     gap: u32,
     n: u32,
-    words: &[u32; 192],
+    words: &[u32; 92],
     detailed: &mut [u8],
     partial: &mut [u8],
     simple: &mut [u8],
@@ -125,7 +125,7 @@ fn three_pieces(
     cs: &[u8],
     ns: &[u32],
     first: u32,
-    words: &[u32; 192],
+    words: &[u32; 92],
     detailed: &mut [u8],
     partial: &mut [u8],
     simple: &mut [u8],
@@ -154,7 +154,7 @@ pub fn standard_three(
     cs: &[u8],
     ns: &[u32],
     first: u32,
-    words: &[u32; 192],
+    words: &[u32; 92],
     detailed: &mut [u8],
     partial: &mut [u8],
     simple: &mut [u8],
@@ -164,10 +164,10 @@ pub fn standard_three(
 {
     let t = three_pieces(cs, ns, first, words, detailed, partial, simple);
     let last = t.joined;
-    let bare = add_number(simple, t.simple, last.length, words);
+    let bare = add_u64(simple, t.simple, last.length);
     Three {
-        first: add_number(detailed, t.detailed, t.piece, words),
-        second: add_number(partial, t.partial, t.piece, words),
+        first: add_u64(detailed, t.detailed, t.piece),
+        second: add_u64(partial, t.partial, t.piece),
         third: add_star(simple, bare, last.starred),
     }
 }

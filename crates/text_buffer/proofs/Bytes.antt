@@ -49,6 +49,13 @@ pub side-short : (b c : ℕ) → length (side b c) ≤ 1
 side-short b zero = byte-short b
 side-short b (suc c) = mark-short (suc c)
 
+pub side-high : (b c : ℕ) → 4 ≤ c → side b c ≡ bytes "="
+side-high b zero h = absurd (omega arith)
+side-high b (suc zero) h = absurd (omega arith)
+side-high b (suc (suc zero)) h = absurd (omega arith)
+side-high b (suc (suc (suc zero))) h = absurd (omega arith)
+side-high b (suc (suc (suc (suc c)))) h = refl
+
 pub star-short : (s : Bool) → length (star s) ≤ 1
 star-short true = omega arith
 star-short false = omega arith

@@ -1,7 +1,8 @@
 pub mod Bytes
 pub mod Growing
-pub mod Table
 pub mod Added
 pub mod Reached
 pub mod Reading
 pub mod ThreeTexts
+pub mod Stretch
+pub mod Table

@@ -1,137 +1,124 @@
--- The table of words is right.
+-- The table of words is right: words byte by byte, and the rows one behind the other.
 -- Assumes nothing.
-use Prim.Native.Nat.{ℕ, zero, suc, _+_, _*_, _/_, _%_, _≤_, _<_, min}
-use mathlib.Core.Path.{_≡_, refl, ap, sym, _∙_}
+use Prim.Native.Nat.{ℕ, zero, suc, _+_, _-_, _*_, _/_, _%_, _≤_, _<_, min}
+use mathlib.Core.Path.{_≡_, refl, sym, ap, _∙_}
+use mathlib.Core.Logic.{_≢_}
 use mathlib.Core.Bool.{cond}
-use mathlib.Core.List.{List, [], _∷_, _++_, map}
-use native.Mathlib.Nat.{add-zero, zero-add, not-suc-le-zero, le-of-suc-le-suc}
+use mathlib.Core.List.{List, [], _∷_, _++_, append-nil}
+use native.Mathlib.Numerals.{add-one}
 use native.Mathlib.Omega.{arith}
-use lib.Dec.{ltb, leb}
-use lib.ListN.{getD, length}
-use borrow.Author.Tests.{ltb-true, ltb-false, leb-true, leb-false, le-leb, lt-leb}
-use Rattle.number.specs.Digits.{digits}
-use Rattle.number.proofs.Digits.{digits-one, digits-more}
+use lib.Dec.{leb}
+use lib.ListN.{length, take, getD}
+use lib.Seq.{length-take-le}
+use borrow.Author.Tests.{leb-true, leb-false, le-leb, lt-leb}
 use Rattle.number.proofs.Split.{split}
 use Rattle.rules.specs.Bytes.{bytes}
-use Rattle.rules.specs.Reduced.{signOf}
+use Rattle.rules.specs.Reduced.{Sign, dash, slash, bar, sign}
 use Rattle.rules.specs.Texts.{mark, part, word}
-use Rattle.rules.specs.Slices.{upFrom}
-use Rattle.text_buffer.specs.Words.{side, Word, Words}
+use Rattle.text_buffer.specs.Put.{byteText}
+use Rattle.text_buffer.specs.Stretch.{Stretch, isWord, classWord, signWord}
+use Rattle.text_buffer.specs.Words.{side, wordText, Word, Words}
+use Rattle.text_buffer.proofs.Bytes.{byte-text}
+use Rattle.text_buffer.proofs.Stretch.{stretch-same, stretch-on}
 
-one-byte : (a : ℕ) → a < 256 → Word (a ∷ []) (16777216 + a)
-one-byte a h =
-    let many : (16777216 + a) / 16777216 ≡ 1 = omega arith in
-    let first : (16777216 + a) % 256 ≡ a = omega arith in
-    record { text = rw (many, first) refl; short = omega arith }
+-- how many bytes of a word count
+pub word-count : {xs : List ℕ} {w : ℕ} → Word xs w → w / 16777216 ≡ length xs
+word-count {w = w} h = sym (length-take-le (w / 16777216) _ (h .short)) ∙ ap length (h .text)
 
-two-bytes : (a b : ℕ) → a < 256 → b < 256 → Word (a ∷ b ∷ []) (33554432 + 256 * b + a)
-two-bytes a b h l =
-    let many : (33554432 + 256 * b + a) / 16777216 ≡ 2 = omega arith in
-    let first : (33554432 + 256 * b + a) % 256 ≡ a = omega arith in
-    let high : (33554432 + 256 * b + a) / 256 ≡ 131072 + b = omega arith in
-    let second : (131072 + b) % 256 ≡ b = omega arith in
-    record { text = rw (many, first, high, second) refl; short = omega arith }
+-- a word before another, by the text of that
+pub word-on : (xs : List ℕ) {ys : List ℕ} {v w : ℕ} → Word ys v → Word (xs ++ wordText v) w → Word (xs ++ ys) w
+word-on xs h g = rw (h .text) at g
 
--- a number below 100
-abbrev numberWord : ℕ → ℕ
-numberWord n = cond (ltb n 10) (16777216 + (48 + n)) (33554432 + 256 * (48 + n % 10) + (48 + n / 10))
+-- of three bytes, no more than two
+first-two : (l a b c : ℕ) → l ≤ 2 → take l (a ∷ b ∷ []) ≡ take l (a ∷ b ∷ c ∷ [])
+first-two zero a b c s = refl
+first-two (suc zero) a b c s = refl
+first-two (suc (suc zero)) a b c s = refl
+first-two (suc (suc (suc l))) a b c s = absurd (omega arith)
 
-number-right : (n : ℕ) → n < 100 → Word (digits n) (numberWord n)
-number-right n h =
-    split (ltb n 10)
-    (λ e. let l = ltb-true n 10 e in rw (e, digits-one n l) (one-byte (48 + n) (omega arith)))
-    (λ e. rw (e, digits-more n (ltb-false n 10 e), digits-one (n / 10) (omega arith)) (two-bytes (48 + n / 10) (48 + n % 10) (omega arith) (omega arith)))
+-- a byte before a word of up to two
+pub byte-before : (b w : ℕ) → b < 256 → b ≢ 0 → w / 16777216 ≤ 2 → Word (byteText b ++ wordText w) ((w / 16777216 + 1) * 16777216 + w % 65536 * 256 + b)
+byte-before b w l z s =
+    let r = (w / 16777216 + 1) * 16777216 + w % 65536 * 256 + b in
+    let many : r / 16777216 ≡ w / 16777216 + 1 = omega arith in
+    let first : r % 256 ≡ b = omega arith in
+    let low : w % 65536 ≡ w / 256 % 256 * 256 + w % 256 = omega arith in
+    let high : r / 256 ≡ ((w / 16777216 + 1) * 256 + w / 256 % 256) * 256 + w % 256 = omega arith in
+    let second : r / 256 % 256 ≡ w % 256 = rw high (omega arith) in
+    let top : r / 65536 ≡ (w / 16777216 + 1) * 256 + w / 256 % 256 = omega arith in
+    let third : r / 65536 % 256 ≡ w / 256 % 256 = rw top (omega arith) in
+    record {
+      text = rw (byte-text b z, many, first, second, third, add-one) (ap (λ (xs : List ℕ). b ∷ xs) (first-two (w / 16777216) _ _ _ s));
+      short = omega arith;
+    }
 
--- the signs of SN and of standard texts
-abbrev signWord : ℕ → ℕ
-signWord g = cond (leb g 4) 33562669 (cond (leb g 32) 33562671 33562748)
+-- a break's side with no byte is a run's
+side-none : (c : ℕ) → side 0 c ≡ mark c
+side-none zero = refl
+side-none (suc c) = refl
 
-abbrev partWord : ℕ → ℕ
-partWord g = cond (leb g 4) 16777261 (cond (leb g 31) 16777263 52460576)
+-- the signs in three stretches
+pub signs-set : {old mid last new : List ℕ} (row most d s b : ℕ) → 4 ≤ most → Stretch (isWord d) row 5 old mid
+    → Stretch (isWord s) (row + 5) (most - 4) mid last → Stretch (isWord b) (row + most + 1) 1 last new
+    → Stretch (signWord most d s b) row (most + 2) old new
+signs-set {last = last} {new = new} row most d s b l x y z =
+    let p : row + most + 1 ≡ row + (5 + (most - 4)) = omega arith in
+    let e : 5 + (most - 4) + 1 ≡ most + 2 = omega arith in
+    let dashes = stretch-same {Same = signWord most d s b} (λ i v h w. rw (le-leb i 4 (omega arith)) w) x in
+    let slashes : (i v : ℕ) → i < most - 4 → isWord s i v → signWord most d s b (5 + i) v =
+    λ i v h w. rw (lt-leb (5 + i) 4 (omega arith), le-leb (5 + i) most (omega arith)) w in
+    let bars : (i v : ℕ) → i < 1 → isWord b i v → signWord most d s b (5 + (most - 4) + i) v =
+    λ i v h w. rw (lt-leb (5 + (most - 4) + i) 4 (omega arith), lt-leb (5 + (most - 4) + i) most (omega arith)) w in
+    rw e at (stretch-on (5 + (most - 4)) 1 bars (stretch-on 5 (most - 4) slashes dashes y) (rw p at z))
 
-sign-right : (g : ℕ) → Word (word (signOf 32 g) ++ bytes " ") (signWord (min g 33))
-sign-right g =
-    split (leb g 4)
-    (λ e. let l = leb-true g 4 e in rw (e, le-leb (min g 33) 4 (omega arith)) (record { text = refl; short = omega arith }))
-    (λ e. let h = leb-false g 4 e in
-    split (leb g 32)
-    (λ f. let l = leb-true g 32 f in rw (e, f, lt-leb (min g 33) 4 (omega arith), le-leb (min g 33) 32 (omega arith)) (record { text = refl; short = omega arith }))
-    (λ f. let l = leb-false g 32 f in rw (e, f, lt-leb (min g 33) 4 (omega arith), lt-leb (min g 33) 32 (omega arith)) (record { text = refl; short = omega arith })))
+-- the sign of a gap of g is that of min g (most + 1)
+sign-right : (text : Sign → List ℕ) (most d s b : ℕ) → 4 ≤ most → Word (text dash) d → Word (text slash) s → Word (text bar) b → (g w : ℕ)
+    → signWord most d s b (min g (most + 1)) w → Word (text (cond (leb g 4) dash (cond (leb g most) slash bar))) w
+sign-right text most d s b l x y z g w e =
+    rw e
+    (split (leb g 4)
+    (λ f. let h = leb-true g 4 f in rw (f, le-leb (min g (most + 1)) 4 (omega arith)) x)
+    (λ f. let h = leb-false g 4 f in
+    split (leb g most)
+    (λ k. let i = leb-true g most k in rw (f, k, lt-leb (min g (most + 1)) 4 (omega arith), le-leb (min g (most + 1)) most (omega arith)) y)
+    (λ k. let i = leb-false g most k in rw (f, k, lt-leb (min g (most + 1)) 4 (omega arith), lt-leb (min g (most + 1)) most (omega arith)) z)))
 
-part-right : (g : ℕ) → Word (part (signOf 31 g)) (partWord (min g 32))
-part-right g =
-    split (leb g 4)
-    (λ e. let l = leb-true g 4 e in rw (e, le-leb (min g 32) 4 (omega arith)) (record { text = refl; short = omega arith }))
-    (λ e. let h = leb-false g 4 e in
-    split (leb g 31)
-    (λ f. let l = leb-true g 31 f in rw (e, f, lt-leb (min g 32) 4 (omega arith), le-leb (min g 32) 31 (omega arith)) (record { text = refl; short = omega arith }))
-    (λ f. let l = leb-false g 31 f in rw (e, f, lt-leb (min g 32) 4 (omega arith), lt-leb (min g 32) 31 (omega arith)) (record { text = refl; short = omega arith })))
+-- a row by class that later rows leave
+row-right : (b : ℕ) {tail from : ℕ} {xs old mid : List ℕ} (new : List ℕ) → Word xs tail → Stretch (classWord b tail) from 5 old mid
+    → ((i : ℕ) → i < from + 5 → getD new i 0 ≡ getD mid i 0) → (c : ℕ) → c ≤ 4 → Word (side b c ++ xs) (getD new (from + c) 0)
+row-right b {from = from} new h s kept c l = rw (kept (from + c) (omega arith), ← (h .text)) (s .inside c (omega arith))
 
--- the table
-abbrev numbers : List ℕ
-numbers = map numberWord (upFrom 0 100)
+-- the rows, one behind the other: the words of which they are made, and then the stretches
+module _ {space star d s b d′ s′ b′ : ℕ} (hs : Word (bytes " ") space) (ht : Word (bytes "* ") star) (hd : Word (bytes "- ") d) (hl : Word (bytes "/ ") s)
+    (hb : Word (bytes "| ") b) (hd′ : Word (bytes "-") d′) (hl′ : Word (bytes "/") s′) (hb′ : Word (bytes " | ") b′)
+    {t₀ t₁ t₂ t₃ t₄ t₅ t₆ t : List ℕ} (s₁ : Stretch (classWord 0 0) 0 5 t₀ t₁) (s₂ : Stretch (classWord 40 0) 5 5 t₁ t₂)
+    (s₃ : Stretch (classWord 41 space) 10 5 t₂ t₃) (s₄ : Stretch (classWord 0 space) 15 5 t₃ t₄) (s₅ : Stretch (classWord 0 star) 20 5 t₄ t₅)
+    (s₆ : Stretch (signWord 32 d s b) 25 34 t₅ t₆) (s₇ : Stretch (signWord 31 d′ s′ b′) 59 33 t₆ t) where
+  kept₅ : (i : ℕ) → i < 25 → getD t i 0 ≡ getD t₅ i 0
+  kept₅ i h = s₇ .before i (omega arith) ∙ s₆ .before i h
 
-abbrev classRows : List ℕ
-classRows = 0 ∷ 0 ∷ 16777342 ∷ 16777308 ∷ 16777277 ∷ 16777256 ∷ 0 ∷ 16777342 ∷ 16777308 ∷ 16777277 ∷ 33562665 ∷ 16777248 ∷ 33562750 ∷ 33562716 ∷ 33562685 ∷ 16777248 ∷ 16777248 ∷ 33562750 ∷ 33562716 ∷ 33562685 ∷ 33562666 ∷ 33562666 ∷ 52439678 ∷ 52439644 ∷ 52439613 ∷ []
+  kept₄ : (i : ℕ) → i < 20 → getD t i 0 ≡ getD t₄ i 0
+  kept₄ i h = kept₅ i (omega arith) ∙ s₅ .before i h
 
-abbrev signs : List ℕ
-signs = map signWord (upFrom 0 34)
+  kept₃ : (i : ℕ) → i < 15 → getD t i 0 ≡ getD t₃ i 0
+  kept₃ i h = kept₄ i (omega arith) ∙ s₄ .before i h
 
-abbrev parts : List ℕ
-parts = map partWord (upFrom 0 33)
+  kept₂ : (i : ℕ) → i < 10 → getD t i 0 ≡ getD t₂ i 0
+  kept₂ i h = kept₃ i (omega arith) ∙ s₃ .before i h
 
-abbrev table : List ℕ
-table = numbers ++ (classRows ++ (signs ++ (parts ++ [])))
+  kept₁ : (i : ℕ) → i < 5 → getD t i 0 ≡ getD t₁ i 0
+  kept₁ i h = kept₂ i (omega arith) ∙ s₂ .before i h
 
--- a place within a row, and one behind it
-at : (f : ℕ → ℕ) (more : List ℕ) (i n k : ℕ) → k < n → getD (map f (upFrom i n) ++ more) k 0 ≡ f (i + k)
-at f more i zero k h = absurd (not-suc-le-zero h)
-at f more i (suc n) zero h = ap f (sym (add-zero i))
-at f more i (suc n) (suc k) h = let e : suc i + k ≡ i + suc k = omega arith in at f more (suc i) n k (le-of-suc-le-suc h) ∙ ap f e
-
-behind-row : (row more : List ℕ) (i k : ℕ) → i ≡ length row + k → getD (row ++ more) i 0 ≡ getD more k 0
-behind-row [] more i k e = rw (e, zero-add k) refl
-behind-row (x ∷ row) more zero k e = absurd (omega arith)
-behind-row (x ∷ row) more (suc i) k e = behind-row row more i k (omega arith)
-
-number-at : (n : ℕ) → n < 100 → Word (digits n) (getD table n 0)
-number-at n h = rw (at numberWord (classRows ++ (signs ++ (parts ++ []))) 0 100 n h, zero-add n) (number-right n h)
-
--- what holds of the classes 0 to 4
-by-class : (P : ℕ → Type 0) → P 0 → P 1 → P 2 → P 3 → P 4 → (c : ℕ) → c ≤ 4 → P c
-by-class P a b d e f zero h = a
-by-class P a b d e f (suc zero) h = b
-by-class P a b d e f (suc (suc zero)) h = d
-by-class P a b d e f (suc (suc (suc zero))) h = e
-by-class P a b d e f (suc (suc (suc (suc zero)))) h = f
-by-class P a b d e f (suc (suc (suc (suc (suc c))))) h = absurd (omega arith)
-
-mark-at : (c : ℕ) → c ≤ 4 → Word (mark c) (getD table (100 + c) 0)
-mark-at = by-class (λ c. Word (mark c) (getD table (100 + c) 0)) (record { text = refl; short = omega arith }) (record { text = refl; short = omega arith }) (record { text = refl; short = omega arith }) (record { text = refl; short = omega arith }) (record { text = refl; short = omega arith })
-
-before-at : (c : ℕ) → c ≤ 4 → Word (side 40 c) (getD table (105 + c) 0)
-before-at = by-class (λ c. Word (side 40 c) (getD table (105 + c) 0)) (record { text = refl; short = omega arith }) (record { text = refl; short = omega arith }) (record { text = refl; short = omega arith }) (record { text = refl; short = omega arith }) (record { text = refl; short = omega arith })
-
-behind-at : (c : ℕ) → c ≤ 4 → Word (side 41 c ++ bytes " ") (getD table (110 + c) 0)
-behind-at = by-class (λ c. Word (side 41 c ++ bytes " ") (getD table (110 + c) 0)) (record { text = refl; short = omega arith }) (record { text = refl; short = omega arith }) (record { text = refl; short = omega arith }) (record { text = refl; short = omega arith }) (record { text = refl; short = omega arith })
-
-ended-at : (c : ℕ) → c ≤ 4 → Word (mark c ++ bytes " ") (getD table (115 + c) 0)
-ended-at = by-class (λ c. Word (mark c ++ bytes " ") (getD table (115 + c) 0)) (record { text = refl; short = omega arith }) (record { text = refl; short = omega arith }) (record { text = refl; short = omega arith }) (record { text = refl; short = omega arith }) (record { text = refl; short = omega arith })
-
-starred-at : (c : ℕ) → c ≤ 4 → Word (mark c ++ bytes "* ") (getD table (120 + c) 0)
-starred-at = by-class (λ c. Word (mark c ++ bytes "* ") (getD table (120 + c) 0)) (record { text = refl; short = omega arith }) (record { text = refl; short = omega arith }) (record { text = refl; short = omega arith }) (record { text = refl; short = omega arith }) (record { text = refl; short = omega arith })
-
-sign-at : (g : ℕ) → Word (word (signOf 32 g) ++ bytes " ") (getD table (125 + min g 33) 0)
-sign-at g =
-    let k = min g 33 in
-    rw (behind-row numbers (classRows ++ (signs ++ (parts ++ []))) (125 + k) (25 + k) (omega arith), behind-row classRows (signs ++ (parts ++ [])) (25 + k) k (omega arith), at signWord (parts ++ []) 0 34 k (omega arith), zero-add k)
-    (sign-right g)
-
-part-at : (g : ℕ) → Word (part (signOf 31 g)) (getD table (159 + min g 32) 0)
-part-at g =
-    let k = min g 32 in
-    rw (behind-row numbers (classRows ++ (signs ++ (parts ++ []))) (159 + k) (59 + k) (omega arith), behind-row classRows (signs ++ (parts ++ [])) (59 + k) (34 + k) (omega arith), behind-row signs (parts ++ []) (34 + k) k (omega arith), at partWord [] 0 33 k (omega arith), zero-add k)
-    (part-right g)
-
-pub table-right : Words table
-table-right = record { number = number-at; marks = mark-at; before = before-at; behind = behind-at; ended = ended-at; starred = starred-at; signs = sign-at; parts = part-at }
+  pub table-right : Words t
+  table-right =
+      let none : Word [] 0 = record { text = refl; short = omega arith } in
+      record {
+        marks = λ c h. rw (append-nil, side-none) at (row-right 0 t none s₁ kept₁ c h);
+        before = λ c h. rw append-nil at (row-right 40 t none s₂ kept₂ c h);
+        behind = row-right 41 t hs s₃ kept₃;
+        ended = λ c h. rw side-none at (row-right 0 t hs s₄ kept₄ c h);
+        starred = λ c h. rw side-none at (row-right 0 t ht s₅ kept₅ c h);
+        signs = λ g. rw (s₇ .before (25 + min g 33) (omega arith))
+            (sign-right (λ i. word (sign i) ++ bytes " ") 32 d s b (omega arith) hd hl hb g _ (s₆ .inside (min g 33) (omega arith)));
+        parts = λ g. sign-right (λ i. part (sign i)) 31 d′ s′ b′ (omega arith) hd′ hl′ hb′ g _ (s₇ .inside (min g 32) (omega arith));
+      }

@@ -1,18 +1,13 @@
--- What a function leaves that adds a text to a buffer, or to a slice through a buffer.
+-- What a function leaves that adds a text to a buffer (`Grown`), or to a slice through a buffer.
 -- Assumes nothing.
-use Prim.Native.Nat.{ℕ, _+_, _≤_}
+use Prim.Native.Nat.{ℕ, _≤_}
 use mathlib.Core.Path.{_≡_}
 use mathlib.Core.List.{List, _++_}
 use lib.ListN.{length, take}
+pub use Rattle.number.specs.Grown.{Grown}
 use Rattle.number.specs.Place.{Wrote}
 use Rattle.text_buffer.specs.Words.{Words}
 use Rattle.text_buffer.specs.declared.buffer.Left.{Left}
-
--- the bytes xs behind the first k of the buffer, which stay; r is the next place, and of what stands there nothing is said
-pub record Grown (old new : List ℕ) (k : ℕ) (xs : List ℕ) (r : ℕ) : Type 0 where
-  pub next : r ≡ k + length xs
-  pub front : take r new ≡ take k old ++ xs
-  pub long : length new ≡ length old
 
 -- a buffer with room for one more group or piece, and the table of words
 pub record Ready (buf : List ℕ) (left : ℕ) (table : List ℕ) : Type 0 where

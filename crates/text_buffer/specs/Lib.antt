@@ -1,5 +1,6 @@
 pub mod Put
 pub mod Words
+pub mod Stretch
 pub mod Buffer
 pub mod Runs
 pub mod MayFollow

@@ -1,16 +1,13 @@
 // A text grows in a buffer of the caller's own: what stands in it from the next place on is not kept, so that a byte which may be missing is
 // stored without a branch. The buffer is copied to the lent slice when it is nearly full; what is left in it goes on to the next part or text.
 use crate::put::put_bytes;
-use number::digit_count;
 ghost use Prim.Native.Nat.{_<_, _+_, _/_, _≤_};
 ghost use mathlib.Core.List.{[]};
 ghost use lib.ListN.{length, take};
-ghost use Rattle.number.specs.Digits.{digits};
 ghost use Rattle.number.specs.Place.{Room, Wrote};
-ghost use Rattle.number.specs.Pushed.{DigitCount};
 ghost use Rattle.text_buffer.specs.Put.{byteText};
 ghost use Rattle.text_buffer.specs.Buffer.{Added, Grown, goesOn};
-ghost use Rattle.text_buffer.specs.Words.{Words, wordText};
+ghost use Rattle.text_buffer.specs.Words.{wordText};
 
 // The byte `b`, or nothing if it is 0.
 pub fn add_byte(buf: &mut [u8], k: usize, b: u8) -> usize
@@ -19,20 +16,6 @@ pub fn add_byte(buf: &mut [u8], k: usize, b: u8) -> usize
 {
     buf[k] = b;
     if b == 0 { k } else { k + 1 }
-}
-
-// `n` in base ten, of any length. As it calls itself, the compiler leaves it a call: copies of it in the loops below would slow the frequent case.
-fn add_long(buf: &mut [u8], k: usize, n: u64) -> usize
-    requires { ⌜ Room (now buf) k (digits n) ⌝ }
-    ensures { λ r. ⌜ Grown (now (buf .entry)) (now (buf .exit)) k (digits n) r ⌝ }
-{
-    if n < 10 {
-        buf[k] = (48 + n) as u8;
-        return k + 1;
-    }
-    let last = add_long(buf, k, n / 10);
-    buf[last] = (48 + n % 10) as u8;
-    last + 1
 }
 
 // The text of a word. All four bytes are stored, so that it is one store.
@@ -45,27 +28,6 @@ pub fn add_word(buf: &mut [u8], k: usize, w: u32) -> usize
     buf[k + 2] = (w / 65536 % 256) as u8;
     buf[k + 3] = (w / 16777216) as u8;
     k + (w / 16777216) as usize
-}
-
-// `n` in base ten. Numbers below 100, the most frequent ones, stand in the table.
-pub fn add_number(buf: &mut [u8], k: usize, n: u64, words: &[u32; 192]) -> usize
-    requires { ⌜ (k + 20 ≤ length (now buf)) × Words (now words) ⌝ }
-    ensures { λ r. ⌜ Grown (now (buf .entry)) (now (buf .exit)) k (digits n) r ⌝ }
-{
-    if n >= 100 {
-        return add_long(buf, k, n);
-    }
-    add_word(buf, k, words[n as usize])
-}
-
-// How many digits `n` has.
-pub fn number_length(n: u64) -> usize
-    ensures { λ r. ⌜ DigitCount n r ⌝ }
-{
-    if n >= 100 {
-        return digit_count(n);
-    }
-    if n < 10 { 1 } else { 2 }
 }
 
 // The first k bytes of the buffer, at a place of the lent slice; the next place is answered.

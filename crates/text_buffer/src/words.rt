@@ -1,221 +1,98 @@
 // Texts of up to three bytes in a table, so that one is written by one look-up: a word has the first byte lowest, then the second and the third, then
 // how many count.
 ghost use mathlib.Core.Path.{_≡_};
-ghost use Prim.Native.Nat.{_+_, _≤_, _<_, min};
-ghost use lib.ListN.{getD};
+ghost use Prim.Native.Nat.{_+_, _/_, _≤_, _<_, min};
+ghost use lib.ListN.{getD, length};
 ghost use mathlib.Core.Bool.{cond};
 ghost use mathlib.Core.List.{_++_};
 ghost use Rattle.rules.specs.Bytes.{bytes};
 ghost use Rattle.rules.specs.Texts.{mark, star};
-ghost use Rattle.text_buffer.specs.Words.{Word, Words};
+ghost use Rattle.text_buffer.specs.Put.{byteText};
+ghost use Rattle.text_buffer.specs.Stretch.{Stretch, isWord, classWord, signWord};
+ghost use Rattle.text_buffer.specs.Words.{Word, Words, side, wordText};
 
-// The numbers below 100. By class: the marks; what stands before and what stands behind a token's length; what stands behind a run's length,
-// without and with a star. By length: the signs of SN and of standard texts.
-const WORDS: [u32; 192] = [
-    16777264,
-    16777265,
-    16777266,
-    16777267,
-    16777268,
-    16777269,
-    16777270,
-    16777271,
-    16777272,
-    16777273,
-    33566769,
-    33567025,
-    33567281,
-    33567537,
-    33567793,
-    33568049,
-    33568305,
-    33568561,
-    33568817,
-    33569073,
-    33566770,
-    33567026,
-    33567282,
-    33567538,
-    33567794,
-    33568050,
-    33568306,
-    33568562,
-    33568818,
-    33569074,
-    33566771,
-    33567027,
-    33567283,
-    33567539,
-    33567795,
-    33568051,
-    33568307,
-    33568563,
-    33568819,
-    33569075,
-    33566772,
-    33567028,
-    33567284,
-    33567540,
-    33567796,
-    33568052,
-    33568308,
-    33568564,
-    33568820,
-    33569076,
-    33566773,
-    33567029,
-    33567285,
-    33567541,
-    33567797,
-    33568053,
-    33568309,
-    33568565,
-    33568821,
-    33569077,
-    33566774,
-    33567030,
-    33567286,
-    33567542,
-    33567798,
-    33568054,
-    33568310,
-    33568566,
-    33568822,
-    33569078,
-    33566775,
-    33567031,
-    33567287,
-    33567543,
-    33567799,
-    33568055,
-    33568311,
-    33568567,
-    33568823,
-    33569079,
-    33566776,
-    33567032,
-    33567288,
-    33567544,
-    33567800,
-    33568056,
-    33568312,
-    33568568,
-    33568824,
-    33569080,
-    33566777,
-    33567033,
-    33567289,
-    33567545,
-    33567801,
-    33568057,
-    33568313,
-    33568569,
-    33568825,
-    33569081,
-    0,
-    0,
-    16777342,
-    16777308,
-    16777277,
-    16777256,
-    0,
-    16777342,
-    16777308,
-    16777277,
-    33562665,
-    16777248,
-    33562750,
-    33562716,
-    33562685,
-    16777248,
-    16777248,
-    33562750,
-    33562716,
-    33562685,
-    33562666,
-    33562666,
-    52439678,
-    52439644,
-    52439613,
-    33562669,
-    33562669,
-    33562669,
-    33562669,
-    33562669,
-    33562671,
-    33562671,
-    33562671,
-    33562671,
-    33562671,
-    33562671,
-    33562671,
-    33562671,
-    33562671,
-    33562671,
-    33562671,
-    33562671,
-    33562671,
-    33562671,
-    33562671,
-    33562671,
-    33562671,
-    33562671,
-    33562671,
-    33562671,
-    33562671,
-    33562671,
-    33562671,
-    33562671,
-    33562671,
-    33562671,
-    33562671,
-    33562671,
-    33562748,
-    16777261,
-    16777261,
-    16777261,
-    16777261,
-    16777261,
-    16777263,
-    16777263,
-    16777263,
-    16777263,
-    16777263,
-    16777263,
-    16777263,
-    16777263,
-    16777263,
-    16777263,
-    16777263,
-    16777263,
-    16777263,
-    16777263,
-    16777263,
-    16777263,
-    16777263,
-    16777263,
-    16777263,
-    16777263,
-    16777263,
-    16777263,
-    16777263,
-    16777263,
-    16777263,
-    16777263,
-    16777263,
-    52460576,
-];
+// The byte on a side of the length of a token of `class`: `b` of a break, a run's mark, or 0 for nothing.
+fn side_byte(b: u8, class: usize) -> u8
+    ensures { λ r. ⌜ byteText r ≡ side b class ⌝ }
+{
+    match class {
+        0 => b,
+        1 => 0,
+        2 => b'~',
+        3 => b'\\',
+        _ => b'=',
+    }
+}
 
-// The table: made once by whoever writes texts, and lent, since it would be built anew at each use.
-pub fn words() -> [u32; 192]
+// The word of the byte `b`, or of nothing if it is 0, and then of the text of `w`.
+fn word_before(b: u8, w: u32) -> u32
+    requires { ⌜ w / 16777216 ≤ 2 ⌝ }
+    ensures { λ r. ⌜ Word (byteText b ++ wordText w) r ⌝ }
+{
+    if b == 0 {
+        return w;
+    }
+    (w / 16777216 + 1) * 16777216 + w % 65536 * 256 + b as u32
+}
+
+// The word `w` at n places.
+fn set_same(words: &mut [u32], from: usize, n: usize, w: u32)
+    requires { ⌜ from + n ≤ length (now words) ⌝ }
+    ensures { λ _. ⌜ Stretch (isWord w) from n (now (words .entry)) (now (words .exit)) ⌝ }
+{
+    let mut i: usize = 0;
+    while i < n {
+        words[from + i] = w;
+        i += 1;
+    }
+}
+
+// A row by class: what stands on a side of a token's length, and then the text of `tail`.
+fn set_row(words: &mut [u32], row: usize, b: u8, tail: u32)
+    requires { ⌜ (row + 5 ≤ length (now words)) × (tail / 16777216 ≤ 2) ⌝ }
+    ensures { λ _. ⌜ Stretch (classWord b tail) row 5 (now (words .entry)) (now (words .exit)) ⌝ }
+{
+    let mut class: usize = 0;
+    while class < 5 {
+        words[row + class] = word_before(side_byte(b, class), tail);
+        class += 1;
+    }
+}
+
+// The signs of gaps by length: up to 4, up to `most`, and more.
+fn set_signs(words: &mut [u32], row: usize, most: usize, dash: u32, slash: u32, bar: u32)
+    requires { ⌜ (4 ≤ most) × (row + most + 2 ≤ length (now words)) ⌝ }
+    ensures { λ _. ⌜ Stretch (signWord most dash slash bar) row (most + 2) (now (words .entry)) (now (words .exit)) ⌝ }
+{
+    set_same(words, row, 5, dash);
+    set_same(words, row + 5, most - 4, slash);
+    set_same(words, row + most + 1, 1, bar);
+}
+
+// The table, filled by whoever writes texts, once, and lent. By class: the marks; what stands before and what stands behind a token's length; what
+// stands behind a run's length, without and with a star. By length: the signs of SN and of standard texts.
+pub fn words() -> [u32; 92]
     ensures { λ r. ⌜ Words r ⌝ }
 {
-    WORDS
+    let space = word_before(b' ', 0);
+    let star = word_before(b'*', space);
+    let dash = word_before(b'-', space);
+    let slash = word_before(b'/', space);
+    let bar = word_before(b'|', space);
+    let mut table = [0u32; 92];
+    set_row(&mut table, 0, 0, 0);
+    set_row(&mut table, 5, b'(', 0);
+    set_row(&mut table, 10, b')', space);
+    set_row(&mut table, 15, 0, space);
+    set_row(&mut table, 20, 0, star);
+    set_signs(&mut table, 25, 32, dash, slash, bar);
+    set_signs(&mut table, 59, 31, word_before(b'-', 0), word_before(b'/', 0), word_before(b' ', bar));
+    table
 }
 
 // Word n of the row that begins at `row`; from `last` on, its last.
-pub fn word_at(words: &[u32; 192], row: usize, last: u32, n: u32) -> u32
-    requires { ⌜ row + last < 192 ⌝ }
+pub fn word_at(words: &[u32; 92], row: usize, last: u32, n: u32) -> u32
+    requires { ⌜ row + last < 92 ⌝ }
     ensures { λ r. ⌜ r ≡ getD (now (words .entry)) (row + min n last) 0 ⌝ }
 {
     let i = if n < last { n } else { last };
@@ -223,8 +100,8 @@ pub fn word_at(words: &[u32; 192], row: usize, last: u32, n: u32) -> u32
 }
 
 // The word for `class` in a row of five.
-pub fn class_word(words: &[u32; 192], row: usize, class: u8) -> u32
-    requires { ⌜ (row ≤ 120) × (class ≤ 4) ⌝ }
+pub fn class_word(words: &[u32; 92], row: usize, class: u8) -> u32
+    requires { ⌜ (row ≤ 20) × (class ≤ 4) ⌝ }
     ensures { λ r. ⌜ r ≡ getD (now (words .entry)) (row + class) 0 ⌝ }
 {
     words[row + class as usize]
@@ -232,13 +109,13 @@ pub fn class_word(words: &[u32; 192], row: usize, class: u8) -> u32
 
 // Where the row begins of what stands behind a run's length.
 fn end_row(starred: bool) -> usize
-    ensures { λ r. ⌜ r ≡ cond starred 120 115 ⌝ }
+    ensures { λ r. ⌜ r ≡ cond starred 20 15 ⌝ }
 {
-    if starred { 120 } else { 115 }
+    if starred { 20 } else { 15 }
 }
 
 // What stands behind a run's length, and a space.
-pub fn end_word(words: &[u32; 192], class: u8, starred: bool) -> u32
+pub fn end_word(words: &[u32; 92], class: u8, starred: bool) -> u32
     requires { ⌜ Words (now words) × (class ≤ 4) ⌝ }
     ensures { λ r. ⌜ Word (mark class ++ (star starred ++ bytes " ")) r ⌝ }
 {

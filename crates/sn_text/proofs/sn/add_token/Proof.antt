@@ -23,7 +23,7 @@ behind-word c = rw (c .class-word2 .ensures) (c .before .before .before .before 
 whole : (c : tie.After-add-word2) → let a = c .before .before .before .before .before .before .before .before .before .before .before .before .before .args in
     Grown (a .buf .now) (c .add-word2 .last .0) (a .k) (side 40 (a .class) ++ (digits (a .n) ++ (side 41 (a .class) ++ (32 ∷ [])))) (c .add-word2 .result)
 whole c =
-    let d = grown _ _ (c .before .before .before .before .before .add-number .ensures) (worded (behind-word (c .before)) (c .add-word2 .ensures)) in
+    let d = grown _ _ (c .before .before .before .before .before .add-u64 .ensures) (worded (behind-word (c .before)) (c .add-word2 .ensures)) in
     grown _ _ (worded (before-word (c .before .before .before .before .before .before .before .before .before .before)) (c .before .before .before .before .before .before .before .before .before .add-word .ensures)) d
 
 class-word-requires : tie.Need-class-word-requires
@@ -32,11 +32,11 @@ class-word-requires c κs = search needs
 add-word-requires : tie.Need-add-word-requires
 add-word-requires c κs = (omega (arith, c .before .before .before .pre .0), before-word c .short)
 
-add-number-requires : tie.Need-add-number-requires
-add-number-requires c κs =
+add-u64-requires : tie.Need-add-u64-requires
+add-u64-requires c κs =
     let s = c .before .before .before .before .before .before .before in
     let a = worded (before-word (c .before .before .before .before)) (c .before .before .before .add-word .ensures) in
-    (omega (arith, s .pre .0, a .next, a .long, side-short 40 (s .args .class)), s .pre .1)
+    omega (arith, s .pre .0, a .next, a .long, side-short 40 (s .args .class))
 
 class-word-requires-2 : tie.Need-class-word-requires-2
 class-word-requires-2 c κs = search needs
@@ -45,7 +45,7 @@ add-word-requires-2 : tie.Need-add-word-requires-2
 add-word-requires-2 c κs =
     let s = c .before .before .before .before .before .before .before .before .before .before .before .before in
     let a = worded (before-word (c .before .before .before .before .before .before .before .before .before)) (c .before .before .before .before .before .before .before .before .add-word .ensures) in
-    let b = c .before .before .before .before .add-number .ensures in (
+    let b = c .before .before .before .before .add-u64 .ensures in (
       omega (arith, s .pre .0, a .next, a .long, side-short 40 (s .args .class), b .next, b .long, at-most 20 (s .args .n) (omega arith) (omega arith)),
       behind-word c .short,
     )
@@ -68,7 +68,7 @@ add-token-spec =
     (tie.spec
     class-word-requires
     add-word-requires
-    add-number-requires
+    add-u64-requires
     class-word-requires-2
     add-word-requires-2
     same-length

@@ -6,8 +6,8 @@ use Rattle.sn_text.proofs.SnParts.{long-none, long-parens, long-sign}
 use Rattle.sn_text.proofs.sn.long_length.Statement.{statement}
 use Rattle.sn_text.proofs.sn.long_length.Tie as tie
 
-number-length-requires : tie.Need-number-length-requires
-number-length-requires c κs = search needs
+digit-count-requires : tie.Need-digit-count-requires
+digit-count-requires c κs = search needs
 
 add-wide : tie.Need-add-wide
 add-wide c = search needs
@@ -24,4 +24,4 @@ returns-2 : tie.Need-returns-2
 returns-2 c = let s = c .before .before .args in long-none (s .limit) (s .gap) (c .if2 .left)
 
 pub long-length-spec : {M : Type 1} → statement M
-long-length-spec = tie.close (tie.spec number-length-requires add-wide returns returns-2)
+long-length-spec = tie.close (tie.spec digit-count-requires add-wide returns returns-2)

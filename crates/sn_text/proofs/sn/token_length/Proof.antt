@@ -10,17 +10,17 @@ use Rattle.sn_text.proofs.sn.token_length.Tie as tie
 side-length-requires : tie.Need-side-length-requires
 side-length-requires c κs = search needs
 
-number-length-requires : tie.Need-number-length-requires
-number-length-requires c κs = search needs
+digit-count-requires : tie.Need-digit-count-requires
+digit-count-requires c κs = search needs
 
 add-whole : tie.Need-add-whole
-add-whole c = omega (arith, c .before .side-length .ensures .short, c .number-length .ensures .most)
+add-whole c = omega (arith, c .before .side-length .ensures .short, c .digit-count .ensures .most)
 
 add-whole-2 : tie.Need-add-whole-2
-add-whole-2 c = omega (arith, c .before .side-length .ensures .short, c .number-length .ensures .most)
+add-whole-2 c = omega (arith, c .before .side-length .ensures .short, c .digit-count .ensures .most)
 
 add-whole-3 : tie.Need-add-whole-3
-add-whole-3 c = omega (arith, c .before .side-length .ensures .short, c .number-length .ensures .most)
+add-whole-3 c = omega (arith, c .before .side-length .ensures .short, c .digit-count .ensures .most)
 
 returns : tie.Need-returns
 returns c = let a = c .before .before .before .args in rw (token-none (a .class) (a .n) (c .if1 .taken)) (record { number = omega arith; short = omega arith })
@@ -29,7 +29,7 @@ returns-2 : tie.Need-returns-2
 returns-2 c =
     let a = c .before .before .before .args in
     let s = c .before .before .side-length .ensures in
-    let d = c .before .number-length .ensures in
+    let d = c .before .digit-count .ensures in
     rw (token-text (a .class) (a .n) (c .if1 .left))
     (record { number = simp length-append (omega (arith, s .left, s .right, d .number)); short = omega (arith, s .short, d .most) })
 
@@ -38,7 +38,7 @@ token-length-spec =
     tie.close
     (tie.spec
     side-length-requires
-    number-length-requires
+    digit-count-requires
     add-whole
     add-whole-2
     add-whole-3

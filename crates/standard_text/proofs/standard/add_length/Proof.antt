@@ -19,14 +19,14 @@ add-in-parens-requires : tie.Need-add-in-parens-requires
 add-in-parens-requires c κs =
     let s = c .before .before .before .before .before .before .before in
     let a = c .before .before .before .add-byte .ensures in
-    (omega (arith, s .pre .0, a .next, a .long, byte-short (c .before .before .before .before .first-byte .result)), s .pre .1)
+    omega (arith, s .pre, a .next, a .long, byte-short (c .before .before .before .before .first-byte .result))
 
 add-byte-requires-2 : tie.Need-add-byte-requires-2
 add-byte-requires-2 c κs =
     let s = c .before .before .before .before .before .before .before .before .before .before .before in
     let a = c .before .before .before .before .before .before .before .add-byte .ensures in
     let b = c .before .before .before .add-in-parens .ensures in
-    omega (arith, s .pre .0, a .next, a .long, byte-short (c .before .before .before .before .before .before .before .before .first-byte .result), b .next, b .long, in-parens (s .args .n) (omega arith))
+    omega (arith, s .pre, a .next, a .long, byte-short (c .before .before .before .before .before .before .before .before .first-byte .result), b .next, b .long, in-parens (s .args .n) (omega arith))
 
 same-length : tie.Need-same-length
 same-length c = search needs
@@ -35,7 +35,7 @@ returns : tie.Need-returns
 returns c =
     let one = eq-eqb _ 1 (c .if1 .taken) in
     let a = c .before .before .before .before .before .before .before .before .before .before .before .add-byte .ensures in
-    let d = dropped _ (within _ (omega (arith, c .before .before .before .before .before .before .before .before .before .before .before .before .before .before .before .pre .0)) a) (grown _ _ (c .before .before .before .before .before .before .before .add-in-parens .ensures) (c .before .before .before .add-byte2 .ensures)) in
+    let d = dropped _ (within _ (omega (arith, c .before .before .before .before .before .before .before .before .before .before .before .before .before .before .before .pre)) a) (grown _ _ (c .before .before .before .before .before .before .before .add-in-parens .ensures) (c .before .before .before .add-byte2 .ensures)) in
     rw one (rw (append-nil, c .before .before .before .before .before .before .before .before .before .before .before .before .first-byte .ensures, one) at (grown _ [] a d))
 
 same-length-2 : tie.Need-same-length-2

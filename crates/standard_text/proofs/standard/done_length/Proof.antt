@@ -6,8 +6,8 @@ use borrow.Author.Needs.{needs}
 use Rattle.standard_text.proofs.standard.done_length.Statement.{statement}
 use Rattle.standard_text.proofs.standard.done_length.Tie as tie
 
-number-length-requires : tie.Need-number-length-requires
-number-length-requires c κs = search needs
+digit-count-requires : tie.Need-digit-count-requires
+digit-count-requires c κs = search needs
 
 star-length-requires : tie.Need-star-length-requires
 star-length-requires c κs = search needs
@@ -28,7 +28,7 @@ pub done-length-spec : {M : Type 1} → statement M
 done-length-spec =
     tie.close
     (tie.spec
-    number-length-requires
+    digit-count-requires
     star-length-requires
     add-result
     shown-length-requires

@@ -14,8 +14,8 @@ returns c = record { number = rw (c .before .if1 .taken, sign-short _ (c .if2 .t
 returns-2 : tie.Need-returns-2
 returns-2 c = record { number = rw (c .before .if1 .taken, sign-long _ (c .if2 .left)); short = omega arith }
 
-number-length-requires : tie.Need-number-length-requires
-number-length-requires c κs = search needs
+digit-count-requires : tie.Need-digit-count-requires
+digit-count-requires c κs = search needs
 
 add-long : tie.Need-add-long
 add-long c = search needs
@@ -28,4 +28,4 @@ returns-4 c = record { number = rw (c .before .before .if1 .left, ne-eqb _ 1 (c 
 
 pub shown-length-spec : {M : Type 1} → statement M
 shown-length-spec =
-    tie.close (tie.spec returns returns-2 number-length-requires add-long returns-3 returns-4)
+    tie.close (tie.spec returns returns-2 digit-count-requires add-long returns-3 returns-4)

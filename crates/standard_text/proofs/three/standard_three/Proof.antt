@@ -11,20 +11,20 @@ use Rattle.standard_text.proofs.three.standard_three.Tie as tie
 three-pieces-requires : tie.Need-three-pieces-requires
 three-pieces-requires c κs = search needs
 
-add-number-requires : tie.Need-add-number-requires
-add-number-requires c κs = search needs
+add-u64-requires : tie.Need-add-u64-requires
+add-u64-requires c κs = search needs
 
-add-number-requires-2 : tie.Need-add-number-requires-2
-add-number-requires-2 c κs = search needs
+add-u64-requires-2 : tie.Need-add-u64-requires-2
+add-u64-requires-2 c κs = search needs
 
-add-number-requires-3 : tie.Need-add-number-requires-3
-add-number-requires-3 c κs = (omega (arith, c .before .before .before .before .before .before .before .before .before .before .before .before .before .before .before .before .three-pieces .ensures .partial .room), c .before .before .before .before .before .before .before .before .before .before .before .before .before .before .before .before .before .before .before .before .before .before .before .before .before .pre .words)
+add-u64-requires-3 : tie.Need-add-u64-requires-3
+add-u64-requires-3 c κs = omega (arith, c .before .before .before .before .before .before .before .before .before .before .before .before .before .before .before .before .three-pieces .ensures .partial .room)
 
 add-star-requires : tie.Need-add-star-requires
 add-star-requires c κs =
     let t = c .before .before .before .before .before .before .before .before .before .before .before .before .before .before .before .before .before .before .before .before .three-pieces in
     let o = t .ensures .simple in
-    let a = c .before .before .before .before .before .before .before .before .before .before .before .add-number .ensures in
+    let a = c .before .before .before .before .before .before .before .before .before .before .before .add-u64 .ensures in
     omega (arith, o .room, a .next, a .long, at-most 20 (t .result .joined .length) (omega arith) (omega arith))
 
 same-length : tie.Need-same-length
@@ -40,9 +40,9 @@ returns : tie.Need-returns
 returns c =
     let e = c .before .before .before .before .before .before .before .before .before .before .before .before .before .before .before .before .before .before .before .before .before .before .before .three-pieces .ensures in
     record {
-      first = opened-ends (e .detailed) (c .before .before .before .before .before .before .before .before .before .before .add-number2 .ensures) grown-none;
-      second = opened-ends (e .partial) (c .before .before .before .before .before .before .add-number3 .ensures) grown-none;
-      third = opened-ends (e .simple) (c .before .before .before .before .before .before .before .before .before .before .before .before .before .before .add-number .ensures) (c .before .before .add-star .ensures);
+      first = opened-ends (e .detailed) (c .before .before .before .before .before .before .before .before .before .before .add-u642 .ensures) grown-none;
+      second = opened-ends (e .partial) (c .before .before .before .before .before .before .add-u643 .ensures) grown-none;
+      third = opened-ends (e .simple) (c .before .before .before .before .before .before .before .before .before .before .before .before .before .before .add-u64 .ensures) (c .before .before .add-star .ensures);
     }
 
 pub standard-three-spec : {M : Type 1} → statement M
@@ -50,9 +50,9 @@ standard-three-spec =
     tie.close
     (tie.spec
     three-pieces-requires
-    add-number-requires
-    add-number-requires-2
-    add-number-requires-3
+    add-u64-requires
+    add-u64-requires-2
+    add-u64-requires-3
     add-star-requires
     same-length
     same-length-2

@@ -11,25 +11,25 @@ use Rattle.text_buffer.proofs.gap.add_in_parens.Tie as tie
 add-byte-requires : tie.Need-add-byte-requires
 add-byte-requires c κs = search needs
 
-add-number-requires : tie.Need-add-number-requires
-add-number-requires c κs = search needs
+add-u64-requires : tie.Need-add-u64-requires
+add-u64-requires c κs = search needs
 
 add-byte-requires-2 : tie.Need-add-byte-requires-2
 add-byte-requires-2 c κs =
     let s = c .before .before .before .before .before .before .before .before .before .before in
     let a = c .before .before .before .before .before .before .before .add-byte .ensures in
-    let b = c .before .before .before .add-number .ensures in
-    omega (arith, s .pre .0, at-most 20 (s .args .n) (omega arith) (omega arith), a .next, a .long, b .next, b .long)
+    let b = c .before .before .before .add-u64 .ensures in
+    omega (arith, s .pre, at-most 20 (s .args .n) (omega arith) (omega arith), a .next, a .long, b .next, b .long)
 
 same-length : tie.Need-same-length
 same-length c = search needs
 
 returns : tie.Need-returns
 returns c =
-    let g = grown _ (41 ∷ []) (c .before .before .before .before .before .before .add-number .ensures) (c .before .before .add-byte2 .ensures) in
+    let g = grown _ (41 ∷ []) (c .before .before .before .before .before .before .add-u64 .ensures) (c .before .before .add-byte2 .ensures) in
     grown (40 ∷ []) _ (c .before .before .before .before .before .before .before .before .before .before .add-byte .ensures) g
 
 pub add-in-parens-spec : {M : Type 1} → statement M
 add-in-parens-spec =
     tie.close
-    (tie.spec add-byte-requires add-number-requires add-byte-requires-2 same-length returns)
+    (tie.spec add-byte-requires add-u64-requires add-byte-requires-2 same-length returns)

@@ -24,8 +24,8 @@ class-word-requires c κs = search needs
 add-word-requires : tie.Need-add-word-requires
 add-word-requires c κs = (omega (arith, c .before .before .before .pre .0), mark-word c .short)
 
-add-number-requires : tie.Need-add-number-requires
-add-number-requires c κs = let s = c .before .before .before .before .before .before .before in let a = front (c .before .before .before) in (omega (arith, s .pre .0, a .next, a .long, mark-short (s .args .run .class)), s .pre .1)
+add-u64-requires : tie.Need-add-u64-requires
+add-u64-requires c κs = let s = c .before .before .before .before .before .before .before in let a = front (c .before .before .before) in omega (arith, s .pre .0, a .next, a .long, mark-short (s .args .run .class))
 
 end-word-requires : tie.Need-end-word-requires
 end-word-requires c κs = search needs
@@ -34,7 +34,7 @@ add-word-requires-2 : tie.Need-add-word-requires-2
 add-word-requires-2 c κs =
     let s = c .before .before .before .before .before .before .before .before .before .before .before .before in
     let a = front (c .before .before .before .before .before .before .before .before) in
-    let b = c .before .before .before .before .add-number .ensures in
+    let b = c .before .before .before .before .add-u64 .ensures in
     (omega (arith, s .pre .0, a .next, a .long, mark-short (s .args .run .class), b .next, b .long, at-most 20 (s .args .run .length) (omega arith) (omega arith)), c .end-word .ensures .short)
 
 same-length : tie.Need-same-length
@@ -44,7 +44,7 @@ returns : tie.Need-returns
 returns c =
     let r = c .before .before .before .before .before .before .before .before .before .before .before .before .before .before .before .args .run in
     let e = worded (c .before .before .before .end-word .ensures) (c .before .before .add-word2 .ensures) in
-    rw (ended-run (r .class) (r .length) (r .starred)) at (grown _ _ (front (c .before .before .before .before .before .before .before .before .before .before .before)) (grown _ _ (c .before .before .before .before .before .before .before .add-number .ensures) e))
+    rw (ended-run (r .class) (r .length) (r .starred)) at (grown _ _ (front (c .before .before .before .before .before .before .before .before .before .before .before)) (grown _ _ (c .before .before .before .before .before .before .before .add-u64 .ensures) e))
 
 pub add-ended-spec : {M : Type 1} → statement M
 add-ended-spec =
@@ -52,7 +52,7 @@ add-ended-spec =
     (tie.spec
     class-word-requires
     add-word-requires
-    add-number-requires
+    add-u64-requires
     end-word-requires
     add-word-requires-2
     same-length

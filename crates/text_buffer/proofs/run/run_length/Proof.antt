@@ -13,26 +13,26 @@ use Rattle.text_buffer.proofs.run.run_length.Tie as tie
 mark-right : (c : tie.Joined1) → c .if1 .mark ≡ length (mark (c .before .before .args .run .class))
 mark-right c = ⊎-elim (λ w. w .1 ∙ sym (ap length (mark-none _ (w .0 .taken)))) (λ w. w .1 ∙ sym (mark-one _ (w .0 .left))) (c .if1 .came)
 
-number-length-requires : tie.Need-number-length-requires
-number-length-requires c κs = search needs
+digit-count-requires : tie.Need-digit-count-requires
+digit-count-requires c κs = search needs
 
 add-result : tie.Need-add-result
-add-result c = omega (arith, mark-right (c .before .before), mark-short (c .before .before .before .before .args .run .class), c .before .number-length .ensures .most)
+add-result c = omega (arith, mark-right (c .before .before), mark-short (c .before .before .before .before .args .run .class), c .before .digit-count .ensures .most)
 
 add-result-2 : tie.Need-add-result-2
-add-result-2 c = omega (arith, mark-right (c .before .before), mark-short (c .before .before .before .before .args .run .class), c .before .number-length .ensures .most)
+add-result-2 c = omega (arith, mark-right (c .before .before), mark-short (c .before .before .before .before .args .run .class), c .before .digit-count .ensures .most)
 
 star-length-requires : tie.Need-star-length-requires
 star-length-requires c κs = search needs
 
 add-result-3 : tie.Need-add-result-3
 add-result-3 c =
-    omega (arith, mark-right (c .before .before .before), mark-short (c .before .before .before .before .before .args .run .class), c .before .before .number-length .ensures .most, c .star-length .ensures .short)
+    omega (arith, mark-right (c .before .before .before), mark-short (c .before .before .before .before .before .args .run .class), c .before .before .digit-count .ensures .most, c .star-length .ensures .short)
 
 returns : tie.Need-returns
 returns c =
     let m = mark-right (c .before .before .before) in
-    let d = c .before .before .number-length .ensures in
+    let d = c .before .before .digit-count .ensures in
     let s = c .star-length .ensures in
     record {
       number = simp length-append (omega (arith, m, d .number, s .number));
@@ -43,7 +43,7 @@ pub run-length-spec : {M : Type 1} → statement M
 run-length-spec =
     tie.close
     (tie.spec
-    number-length-requires
+    digit-count-requires
     add-result
     add-result-2
     star-length-requires

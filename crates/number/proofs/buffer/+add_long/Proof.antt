@@ -1,17 +1,17 @@
--- `text_buffer::buffer::add_long` meets its contract: it calls itself with a smaller number.
+-- `number::buffer::add_long` meets its contract: it calls itself with a smaller number.
 -- Assumes nothing.
 use Prim.Native.Nat.{ℕ, _<_}
 use native.Mathlib.Omega.{arith}
 use borrow.Author.Needs.{needs}
 use Rattle.number.proofs.Digits.{digits-one, length-some}
-use Rattle.text_buffer.proofs.Growing.{stored, front-room, last-place, last-digit}
+use Rattle.number.proofs.Grown.{stored, front-room, last-place, last-digit}
 use borrow.Fn.Kinds.{In}
 use borrow.Fn.PlainCycle.{Measures, is, falls, and}
-use Rattle.text_buffer.proofs.buffer.add_long.Reads as add-long
-use Rattle.text_buffer.proofs.buffer.add_long.Kinds as add-long-kinds
-use Rattle.text_buffer.proofs.buffer.+add_long.Lts-add_long as add-long-lts
-use Rattle.text_buffer.proofs.buffer.+add_long.{statement}
-use Rattle.text_buffer.proofs.buffer.+add_long.Tie.{close}
+use Rattle.number.proofs.buffer.add_long.Reads as add-long
+use Rattle.number.proofs.buffer.add_long.Kinds as add-long-kinds
+use Rattle.number.proofs.buffer.+add_long.Lts-add_long as add-long-lts
+use Rattle.number.proofs.buffer.+add_long.{statement}
+use Rattle.number.proofs.buffer.+add_long.Tie.{close}
 
 abbrev μ-add-long : Measures 1 add-long-kinds.ps ℕ
 μ-add-long κs a = a .1 .1 .0
