@@ -59,8 +59,9 @@ pub record Steps (m : List ℕ) (from count : ℕ) (cs ns : List ℕ) (p : Pendi
   pub invariant : ScanInvariant m old new cs ns most (p .class) (p .length) (p .place) from
 
 -- the pending run r of a scan that was in p, `count` measures on from `from`
-abbrev pub StepsTaken : List ℕ → ℕ → ℕ → List ℕ → List ℕ → List ℕ → List ℕ → Pending → Pending → Type 0
-StepsTaken m from count cs₀ cs ns₀ ns p r = Onward m from count cs₀ cs ns₀ ns (p .class) (p .length) (p .place) (r .class) (r .length) (r .place)
+pub record StepsTaken (m : List ℕ) (from count : ℕ) (cs₀ cs ns₀ ns : List ℕ) (p r : Pending) : Type 0 where
+  pub near : r .place ≤ p .place + count
+  pub onward : Onward m from count cs₀ cs ns₀ ns (p .class) (p .length) (p .place) (r .class) (r .length) (r .place)
 
 -- measures of the domain, and room in both slices
 pub record ScanAsked (m cs ns : List ℕ) (most : ℕ) : Type 0 where

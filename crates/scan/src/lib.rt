@@ -121,7 +121,7 @@ fn steps_into(
 }
 
 // The longest runs of one class in `m`, into two lent slices, until there are `most`: over a long run eight measures at a time, then a
-// block of 16 step by step. A block's length stands in the call, so that the compiler unrolls its loop.
+// block of 16 step by step. A block is two calls with the length 8 in them: the compiler unrolls a loop of 8, and not one of 16.
 fn runs_into(m: &[u32], cs: &mut [u8], ns: &mut [u32], most: usize) -> Taken
     requires { ⌜ ScanAsked (now m) (now cs) (now ns) most ⌝ }
     ensures { λ r. ⌜ FirstRuns (now (m .entry)) most (now (cs .entry)) (now (cs .exit)) (now (ns .entry)) (now (ns .exit)) r ⌝ }
@@ -148,7 +148,8 @@ fn runs_into(m: &[u32], cs: &mut [u8], ns: &mut [u32], most: usize) -> Taken
         p.length += (j - i) as u32;
         ns[k] = p.length;
         if m.len() - j > 16 {
-            p = steps_into(m, j, 16, cs, ns, p);
+            p = steps_into(m, j, 8, cs, ns, p);
+            p = steps_into(m, j + 8, 8, cs, ns, p);
             i = j + 16;
         } else {
             p = steps_into(m, j, m.len() - j, cs, ns, p);

@@ -120,25 +120,54 @@ sub-if3 : tie.Need-sub-if3 Inv-loop μ-loop
 sub-if3 c = omega (arith, c .before .run-on .ensures .within)
 
 steps-into-requires : tie.Need-steps-into-requires Inv-loop μ-loop
-steps-into-requires c κs = ready (c .before .before .before .before) 16 (omega arith) (omega arith)
+steps-into-requires c κs = ready (c .before .before .before .before) 8 (omega arith) (omega arith)
+
+add-steps-into : tie.Need-add-steps-into Inv-loop μ-loop
+add-steps-into c = omega arith
+
+steps-into-requires-2 : tie.Need-steps-into-requires-2 Inv-loop μ-loop
+steps-into-requires-2 c κs =
+    let w = c .before .before .before .before .before .before in
+    let r = w .before .before .before .before .before in
+    let s = r .before .before .before .before .before .before .before .before .before .before in
+    record {
+      few = s .pre .few;
+      within = omega arith;
+      most = s .args .most;
+      low = omega (arith, w .steps-into .ensures .near, r .before .if2 .left);
+      old = s .args .cs .now;
+      new = s .args .ns .now;
+      invariant = w .steps-into .ensures .onward _ _ _ (omega (arith, r .before .if2 .left)) (on r _ _ (invariant (r .before .before .before)));
+    }
 
 add-i : tie.Need-add-i Inv-loop μ-loop
-add-i c = omega arith
+add-i c =
+    let w = c .before .before .before .before .before .before .before .before .before .before .before in
+    let r = w .before .before .before .before .before in
+    let s = r .before .before .before .before .before .before .before .before .before .before in
+    omega (arith, r .run-on .ensures .within, s .pre .few)
 
 loop-less : tie.Need-loop-less Inv-loop μ-loop
-loop-less c = omega (arith, c .before .before .before .before .before .before .before .before .before .run-on .ensures .onward)
+loop-less c =
+    let w = c .before .before .before .before .before .before .before .before .before .before .before in
+    omega (arith, w .before .before .before .before .before .run-on .ensures .onward)
 
 loop-again : tie.Need-loop-again Inv-loop μ-loop
 loop-again c =
-    let w = c .before .before .before .before in
+    let v = c .before .before .before .before in
+    let w = v .before .before .before .before .before .before .before in
     let r = w .before .before .before .before .before in
-    λ old new g. w .steps-into .ensures _ old new (omega (arith, r .before .if2 .left)) (on r old new (r .before .before .before .loop .inv old new g))
+    let e : r .run-on .result + 8 + 8 ≡ r .run-on .result + 16 = omega arith in
+    λ old new g.
+    rw e at
+    (v .steps-into2 .ensures .onward _ old new (omega (arith, w .steps-into .ensures .near, r .before .if2 .left))
+    (w .steps-into .ensures .onward _ old new (omega (arith, r .before .if2 .left)) (on r old new (r .before .before .before .loop .inv old new g))))
 
 sub-steps-into : tie.Need-sub-steps-into Inv-loop μ-loop
 sub-steps-into c = omega arith
 
-steps-into-requires-2 : tie.Need-steps-into-requires-2 Inv-loop μ-loop
-steps-into-requires-2 c κs = let r = c .before .before .before .before in ready r _ (omega (arith, r .run-on .ensures .within)) (omega arith)
+steps-into-requires-3 : tie.Need-steps-into-requires-3 Inv-loop μ-loop
+steps-into-requires-3 c κs = let r = c .before .before .before .before in ready r _ (omega (arith, r .run-on .ensures .within)) (omega arith)
 
 loop-less-2 : tie.Need-loop-less-2 Inv-loop μ-loop
 loop-less-2 c = omega arith
@@ -150,7 +179,7 @@ loop-again-2 c =
     let m = r .before .before .before .before .before .before .before .before .before .before .args .m .now in
     let e : r .run-on .result + (length m - r .run-on .result) ≡ length m = omega (arith, r .run-on .ensures .within) in
     λ old new g.
-    rw e at (w .steps-into2 .ensures _ old new (omega (arith, r .before .if2 .left)) (on r old new (r .before .before .before .loop .inv old new g)))
+    rw e at (w .steps-into3 .ensures .onward _ old new (omega (arith, r .before .if2 .left)) (on r old new (r .before .before .before .loop .inv old new g)))
 
 add-tokens : tie.Need-add-tokens Inv-loop μ-loop
 add-tokens c = let g = invariant (c .before .before) in omega arith
@@ -189,11 +218,13 @@ runs-into-spec =
     slice-write-ns-2
     sub-if3
     steps-into-requires
+    add-steps-into
+    steps-into-requires-2
     add-i
     loop-less
     loop-again
     sub-steps-into
-    steps-into-requires-2
+    steps-into-requires-3
     loop-less-2
     loop-again-2
     add-tokens

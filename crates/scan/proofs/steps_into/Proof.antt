@@ -112,7 +112,7 @@ same-length-2 c = longN (invariant (c .before)) ∙ sym (longN (c .before .befor
 returns : tie.Need-returns Inv-loop μ-loop
 returns c =
     let e : c .before .loop .t ≡ c .before .before .before .before .before .args .count = omega arith in
-    rw e at (c .before .loop .inv .0)
+    record { near = rw e at (c .before .loop .inv .2); onward = rw e at (c .before .loop .inv .0) }
 
 pub steps-into-spec : {M : Type 1} → statement M
 steps-into-spec =
