@@ -19,11 +19,11 @@ use Rattle.segments.specs.declared.NthSegment.{NthSegment}
 use Rattle.record.specs.Record.{fieldsOf, densities, nameOf, recordNo}
 use Rattle.record.specs.declared.RecordAnswer.{RecordAnswer}
 use Rattle.chart_texts.specs.Promises.{threeNo}
-use Rattle.label.specs.Promises.{labelText, labelLevel, labelNo}
-use Rattle.stream_outputs.specs.Promises.{passNo}
 use Rattle.chart_texts.specs.declared.ThreeWritten.{ThreeWritten}
-use Rattle.stream_outputs.specs.declared.StreamOutputs.{StreamOutputs}
+use Rattle.label.specs.Promises.{labelText, labelLevel, labelNo}
 use Rattle.label.specs.declared.LabelWritten.{LabelWritten}
+use Rattle.stream_outputs.specs.Promises.{passNo}
+use Rattle.stream_outputs.specs.declared.StreamOutputs.{StreamOutputs}
 use Rattle.acceptance.specs.Refusals.{Refusals}
 
 -- a call that is not accepted gives the refused answer

@@ -18,10 +18,10 @@ use Rattle.rules.specs.declared.StreamBreakdownLevel.the-variants as Level
 use Rattle.rules.specs.declared.LabelChoice.{LabelChoice}
 use Rattle.rules.specs.declared.LabelChoice.the-variants.{Fits, NoneFits}
 use Rattle.rules.proofs.Demand.{exactly}
-use Rattle.label.specs.Promises.{labelText, labelLevel}
 use Rattle.chart_texts.specs.declared.ThreeWritten.{ThreeWritten}
-use Rattle.stream_outputs.specs.declared.StreamOutputs.{StreamOutputs}
+use Rattle.label.specs.Promises.{labelText, labelLevel}
 use Rattle.label.specs.declared.LabelWritten.{LabelWritten}
+use Rattle.stream_outputs.specs.declared.StreamOutputs.{StreamOutputs}
 use Rattle.record.specs.Record.{fieldsOf, nameOf}
 use Rattle.sheet_lines.specs.Sheet.{line, countsLine, textLines, sheetNo, sheetKinds, sheetBytes, chartOf, Printed}
 use Rattle.sheet_lines.specs.declared.Sheet.{Sheet}

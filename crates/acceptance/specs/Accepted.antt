@@ -25,11 +25,11 @@ use Rattle.record.specs.Record.{fieldsOf, densities, nameOf}
 use Rattle.record.specs.Promises.{ReadRecord}
 use Rattle.record.specs.declared.RecordAnswer.{RecordAnswer}
 use Rattle.chart_texts.specs.Promises.{Breakdowns}
-use Rattle.label.specs.Promises.{labelText, labelLevel, Label, pairChoice}
-use Rattle.stream_outputs.specs.Promises.{Outputs}
 use Rattle.chart_texts.specs.declared.ThreeWritten.{ThreeWritten}
-use Rattle.stream_outputs.specs.declared.StreamOutputs.{StreamOutputs}
+use Rattle.label.specs.Promises.{labelText, labelLevel, Label, pairChoice}
 use Rattle.label.specs.declared.LabelWritten.{LabelWritten}
+use Rattle.stream_outputs.specs.Promises.{Outputs}
+use Rattle.stream_outputs.specs.declared.StreamOutputs.{StreamOutputs}
 use Rattle.sheet_lines.specs.Sheet.{sheetBytes, Printed}
 use Rattle.sheet_lines.specs.declared.Sheet.{Sheet}
 

@@ -16,11 +16,11 @@ use Rattle.token_view.specs.Steps.{Stepped}
 use Rattle.segments.specs.Promises.{Segmented, nthSegment, placed}
 use Rattle.segments.specs.declared.SegmentsAnswer.{SegmentsAnswer}
 use Rattle.chart_texts.specs.Promises.{Breakdown, Breakdowns}
-use Rattle.label.specs.Promises.{Label}
-use Rattle.stream_outputs.specs.Promises.{Outputs}
 use Rattle.chart_texts.specs.declared.ThreeWritten.{ThreeWritten}
-use Rattle.stream_outputs.specs.declared.StreamOutputs.{StreamOutputs}
+use Rattle.label.specs.Promises.{Label}
 use Rattle.label.specs.declared.LabelWritten.{LabelWritten}
+use Rattle.stream_outputs.specs.Promises.{Outputs}
+use Rattle.stream_outputs.specs.declared.StreamOutputs.{StreamOutputs}
 use Rattle.record.specs.Alike.{Alike}
 use Rattle.sheet_lines.specs.Sheet.{Printed}
 use Rattle.sheet_lines.specs.declared.Sheet.{Sheet}

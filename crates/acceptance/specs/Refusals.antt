@@ -21,11 +21,11 @@ use Rattle.segments.specs.declared.SegmentsAnswer.{SegmentsAnswer}
 use Rattle.record.specs.Promises.{ReadRecord}
 use Rattle.record.specs.declared.RecordAnswer.{RecordAnswer}
 use Rattle.chart_texts.specs.Promises.{Breakdowns}
-use Rattle.label.specs.Promises.{Label}
-use Rattle.stream_outputs.specs.Promises.{Outputs}
 use Rattle.chart_texts.specs.declared.ThreeWritten.{ThreeWritten}
-use Rattle.stream_outputs.specs.declared.StreamOutputs.{StreamOutputs}
+use Rattle.label.specs.Promises.{Label}
 use Rattle.label.specs.declared.LabelWritten.{LabelWritten}
+use Rattle.stream_outputs.specs.Promises.{Outputs}
+use Rattle.stream_outputs.specs.declared.StreamOutputs.{StreamOutputs}
 
 pub record Refusals : Type 0 where
   -- push_u64, format_run_symbol, generate_breakdown, stream_breakdown: `q` is the first no

@@ -19,11 +19,11 @@ use Rattle.rules.specs.Demand.{SameStreams}
 use Rattle.rules.specs.declared.StreamBreakdownLevel.{StreamBreakdownLevel}
 use Rattle.rules.specs.declared.StreamBreakdownLevel.the-variants as Level
 use Rattle.chart_texts.specs.Promises.{Breakdown, Breakdowns}
-use Rattle.label.specs.Promises.{Label}
-use Rattle.stream_outputs.specs.Promises.{Outputs}
 use Rattle.chart_texts.specs.declared.ThreeWritten.{ThreeWritten}
-use Rattle.stream_outputs.specs.declared.StreamOutputs.{StreamOutputs}
+use Rattle.label.specs.Promises.{Label}
 use Rattle.label.specs.declared.LabelWritten.{LabelWritten}
+use Rattle.stream_outputs.specs.Promises.{Outputs}
+use Rattle.stream_outputs.specs.declared.StreamOutputs.{StreamOutputs}
 use Rattle.sheet_lines.specs.Sheet.{chartOf, sheetNo, sheetKinds, Printed}
 use Rattle.sheet_lines.specs.declared.Sheet.{Sheet}
 

@@ -5,7 +5,7 @@ use text_buffer::run::open_run;
 use text_buffer::three::put_three;
 ghost use Rattle.stream_outputs.specs.Pass.{FewTokens, SixTexts, UpTo};
 
-// By way of three buffers, from the tokens of `m`; the length of each text is answered.
+// The six texts by way of three buffers, from the tokens of `m`; the length of each is answered.
 fn put_by_three(
     m: &[u32],
     cs: &[u8],
@@ -34,7 +34,7 @@ fn put_by_three(
     ]
 }
 
-// By way of buffers of its own of 1,024 bytes, in which 88 tokens have room.
+// The six texts by way of buffers of 1,024 bytes, in which 88 tokens have room.
 pub fn put_short(m: &[u32], cs: &[u8], ns: &[u32], words: &[u32; 92], out: &mut [u8]) -> [usize; 6]
     requires { ⌜ UpTo 88 (now m) (now cs) (now ns) (now words) (now out) ⌝ }
     ensures { λ r. ⌜ SixTexts (now (m .entry)) (now (out .entry)) (now (out .exit)) r ⌝ }

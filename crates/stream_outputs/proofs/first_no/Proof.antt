@@ -40,7 +40,7 @@ returns-3 c =
     no-2 m (a .classes) (a .lengths) (a .room) (omega arith) (c .before .before .before .before .before .before .shorter .ensures)
     (omega (arith, due-tokens m _ (c .before .before .before .active-range .ensures) (c .before .before .due-of-measures .ensures)))
 
--- the six lengths together
+-- the six lengths together are at most 17 bytes a measure and 33
 summed : (c : tie.After-due-of-measures) → sum (c .due-of-measures .result .lengths) ≤ 17825825
 summed c =
     let m = c .before .before .before .before .before .before .before .args .m .now in
