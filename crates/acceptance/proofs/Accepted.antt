@@ -20,7 +20,7 @@ use Rattle.rules.specs.declared.RunDensity.the-variants.{Run32, Run24, Run20, R
 use Rattle.rules.proofs.Domain.{within}
 use Rattle.rules.proofs.Steps.{active-part}
 use Rattle.measures.specs.Answers.{hasStream}
-use Rattle.segments.specs.Promises.{segmentsNo, noSegment, nthSegment, empties}
+use Rattle.segments.specs.Promises.{segmentsNo, noSegment, nthSegment}
 use Rattle.segments.specs.declared.SegmentsAnswer.{SegmentsAnswer}
 use Rattle.segments.specs.declared.NthSegment.{NthSegment}
 use Rattle.record.specs.Record.{fieldsOf, densities, nameOf, recordNo}
@@ -102,7 +102,6 @@ all-accepted =
           let e = kept (firstNo (inDomain v ∷ [])) v [] (within v h) in
           (s .token ∙ ap (stepAt 0) e, s .left ∙ ap afterStep e);
       segmentAt = λ k m h. kept-segment (firstNo (inDomain m ∷ [])) _ h;
-      firstSegments = λ m h. kept (segmentsNo m empties) _ _ h;
       sheet = λ input r p. rw (p .answer) (take-append-seam (sheetBytes input) _);
       class = λ d r s p q. one-class r s (p ∙ sym q);
       activeRange = active-part;

@@ -19,7 +19,7 @@ use Rattle.rules.specs.declared.ViewToken.{ViewToken}
 use Rattle.rules.specs.declared.StreamBreakdownLevel.the-variants as Level
 use Rattle.measures.specs.Answers.{countsAnswer, shareAnswer, alikeAnswer, sameBytes}
 use Rattle.token_view.specs.Promises.{Opening, Step, nthAnswer}
-use Rattle.segments.specs.Promises.{segmentsNo, Segmented, firstSegment, nthSegment, empties, placed}
+use Rattle.segments.specs.Promises.{Segmented, firstSegment, nthSegment}
 use Rattle.segments.specs.declared.SegmentsAnswer.{SegmentsAnswer}
 use Rattle.record.specs.Record.{fieldsOf, densities, nameOf}
 use Rattle.record.specs.Promises.{ReadRecord}
@@ -48,9 +48,8 @@ pub record Accepted : Type 0 where
   pub label : (width : ℕ) (m old new : List ℕ) (r : LabelWritten) → Label width m old new r → r .refused ≡ 0
       → (r ≡ record { refused = 0; level = labelLevel (labelChoice width m); length = length (labelText (labelChoice width m) m) })
       × (new ≡ filled old (labelText (labelChoice width m) m))
-  -- segment_at, first_segments, stream_sequences
+  -- segment_at, stream_sequences
   pub segmentAt : (k : ℕ) (m : List ℕ) → nthSegment k m .refused ≡ 0 → nthSegment k m ≡ firstSegment (drop k (segments (classes m)))
-  pub firstSegments : (m : List ℕ) → segmentsNo m empties ≡ 0 → placed m ≡ filled empties (segments (classes m))
   pub segments : (m : List ℕ) (old new : List StreamSegment) (r : SegmentsAnswer) → Segmented m old new r → r .refused ≡ 0
       → (r .count ≡ length (segments (classes m))) × (new ≡ filled old (segments (classes m)))
   -- read_chart_record

@@ -1,4 +1,5 @@
--- `segments::stream_sequences` meets its contract: a walk of its MIR, by hand, with a loop. The borrow of the slice of structs is opened once, before the loop, and closed once, after it; a turn takes one element out of the row, stores to it and puts it back, and calls `next_turn`.
+-- `segments::stream_sequences` meets its contract: a walk of its MIR, by hand, with a loop. The borrow of the slice of structs is opened once, before
+-- the loop, and closed once, after it; a turn takes one element out of the row, stores to it and puts it back, and calls `next_turn`.
 -- All that the proof knows of `first_turn` and `next_turn` is that they meet their contracts. What the loop does in plain terms is in `Written.antt`.
 -- Assumes nothing.
 use mathlib.Core.Bool.{Bool}
@@ -21,8 +22,10 @@ use prog.Wp.{Heap, Out, Env, Calls, Loops, Wp, WpFn, Tables, atReturn, afterSeq,
 use ghost.Atoms.{Atoms, sem}
 use contract.Monad.{Fun, fact}
 use contract.Running.{givenOf, tables, tablesOf}
-use types.Kit.{Given, Item, ‵, raw, _⊛_, some, later, ⋆, Sq, runs, anyQ, atRet, _$_, _∵_, !, qed, by, move, keep, drop, use1, use2, split, join, pick, rewrite, fsplit, fjoin, suffices, frame, await, done}
-use types.Run.{look, init, store, store-raw, forget, stop, hop, fld, from, load, lit, of-opd, bin, and-then, no-more, assigns, land, land-last, first, blocks, stays, leaves-loop, loops, again, Below, exec, returns, enter, alloc1, alloc0, params1, pass1, pass0, free1, free0}
+use types.Kit.{Given, Item, ‵, raw, _⊛_, some, later, ⋆, Sq, runs, anyQ, atRet, _$_, _∵_, !, qed}
+use types.Kit.{by, move, keep, drop, use1, use2, split, join, pick, rewrite, fsplit, fjoin, suffices, frame, await, done}
+use types.Run.{look, init, store, store-raw, forget, stop, hop, fld, from, load, lit, of-opd, bin, and-then, no-more, assigns, land, land-last}
+use types.Run.{first, blocks, stays, leaves-loop, loops, again, Below, exec, returns, enter, alloc1, alloc0, params1, pass1, pass0, free1, free0}
 use types.Part.{whole, sub, look-in}
 use sound.WpLaws.{fmOf, WpFn-mono}
 use denote.RattleType.{owns}
