@@ -1,7 +1,7 @@
 -- Demand 3, first half, holds: each promise is made of the chart's classes and the lent slices alone.
 -- Assumes nothing.
 use Prim.Native.Nat.{ℕ}
-use mathlib.Core.Path.{_≡_, refl, sym, _∙_}
+use mathlib.Core.Path.{_≡_, sym, _∙_}
 use mathlib.Core.List.{List}
 use Rattle.rules.specs.Chart.{classes}
 use Rattle.rules.proofs.Demand.{same-classes}

@@ -8,6 +8,7 @@ pub mod Pairs
 pub mod View
 pub mod Demand
 pub mod Domain
+pub mod Share
 pub mod Lines
 pub mod Cost
 pub mod Bound
