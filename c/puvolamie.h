@@ -171,8 +171,9 @@ pv_segments_answer pv_stream_sequences(const uint32_t *m, size_t m_length, pv_se
 /* Segment number k, from 0, if there is one. Question 1. */
 pv_nth_segment pv_segment_at(const uint32_t *m, size_t m_length, size_t k);
 
-/* Token number k, from 0, of the whole chart, breaks at both ends included; ended past the last. Question 1.
- * To step through a chart, ask for token 0 of the measures that are left, and move on by its length. */
+/* Token number k, from 0, of the whole chart, breaks at both ends included; ended past the last. Question 1: a refused token is not
+ * ended, and its class and length are 0, so look at the number first. To step through a chart, ask for token 0 of the measures that
+ * are left, and move on by its length. */
 pv_nth_token_answer pv_nth_token(const uint32_t *m, size_t m_length, size_t k);
 
 /* One run as an SN text shows it. Questions 5, 4. A class above 4 is no stream class. */

@@ -532,7 +532,12 @@ static void test_domain(size_t measures)
     expect(pv_alike(m, m_length, chart, measures).refused == number, "alike, second");
     expect(pv_segment_at(chart, measures, 0).refused == number, "segment by number");
     expect(pv_stream_sequences(chart, measures, segments, 1).refused == number, "segments");
-    expect(pv_nth_token(chart, measures, 0).refused == number, "token");
+    pv_nth_token_answer t = pv_nth_token(chart, measures, 0);
+    expect(t.refused == number && !t.token.ended, "token; a refused one is not ended");
+    expect(t.token.class_number == (few != 0) && t.token.length == few, "a token's class and length, 0 in a refusal");
+    t = pv_nth_token(chart, measures, 1);
+    expect(t.refused == number && t.token.ended == (few != 0), "ended past the last token, and in no refusal");
+    expect(t.token.class_number == 0 && t.token.length == 0, "no class and no length there");
     expect(pv_generate_breakdown(chart, measures, text, MOST, 2).refused == number, "SN text");
     expect(pv_stream_breakdown(chart, measures, text, MOST, 4).refused == number, "standard text");
     expect(pv_generate_breakdowns(chart, measures, text, MOST).refused == number, "SN texts");

@@ -142,6 +142,19 @@ fn refusals_carry_the_questions_number() {
 }
 
 #[test]
+fn a_refused_token_is_not_ended() {
+    let many = vec![16; MOST_MEASURES + 1];
+    for k in [0, 1, usize::MAX] {
+        let ffi::NthToken { refused, token } = ffi::nth_token(&many, k);
+        assert_eq!((refused, token.ended), (1, false));
+        assert_eq!((token.class, token.length), (0, 0));
+        assert_eq!(lent::nth_token(&many, k), Err(Refused(1)));
+    }
+    assert!(lent::stream_tokens(&many).is_err());
+    assert_eq!(lent::nth_token(&many[..MOST_MEASURES], 1), Ok(None));
+}
+
+#[test]
 fn numbers_and_run_symbols() {
     let mut out = String::from("n ");
     push_u64(&mut out, u64::MAX);

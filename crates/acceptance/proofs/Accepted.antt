@@ -13,14 +13,19 @@ use Rattle.number.specs.Questions.{firstNo, accepted, filled}
 use Rattle.number.specs.declared.Written.{Written}
 use Rattle.number.proofs.Split.{split}
 use Rattle.rules.specs.Chart.{inDomain, classes, classNumber, tokens, counts, noCounts}
-use Rattle.rules.specs.Texts.{passKinds, lengthsOf}
+use Rattle.rules.specs.declared.Kind.the-variants.{Standard as standard}
+use Rattle.rules.specs.Texts.{text, passKinds, lengthsOf}
 use Rattle.rules.specs.Calls.{share, stepAt, afterStep, labelChoice}
 use Rattle.rules.specs.declared.RunDensity.{RunDensity}
 use Rattle.rules.specs.declared.RunDensity.the-variants.{Run32, Run24, Run20, Run16, Break}
+use Rattle.rules.specs.declared.StreamBreakdownLevel.the-variants as Level
 use Rattle.rules.proofs.Domain.{within}
+use Rattle.rules.proofs.Share.{share-most}
 use Rattle.rules.proofs.Steps.{active-part}
-use Rattle.measures.specs.Answers.{hasStream}
-use Rattle.segments.specs.Promises.{segmentsNo, noSegment, nthSegment, empties}
+use Rattle.measures.specs.Answers.{hasStream, sameBytes}
+use Rattle.measures.proofs.Same.{same-exactly}
+use Rattle.token_view.specs.Promises.{noToken}
+use Rattle.segments.specs.Promises.{segmentsNo, noSegment, nthSegment}
 use Rattle.segments.specs.declared.SegmentsAnswer.{SegmentsAnswer}
 use Rattle.segments.specs.declared.NthSegment.{NthSegment}
 use Rattle.record.specs.Record.{fieldsOf, densities, nameOf, recordNo}
@@ -82,7 +87,10 @@ all-accepted =
       outputs = λ m cs cs′ ns ns′ old new r p h.
           let q = passNo m cs ns old in
           let z : q ≡ 0 = sym (ap (λ (w : StreamOutputs). w .refused) (p .answer)) ∙ h in
-          (p .answer ∙ rw (kept q (counts (classes m)) noCounts z, kept q (length (tokens (classes m))) 0 z, kept q (lengthsOf passKinds m) (replicate 6 0) z, z), p .inClasses ∙ kept q _ _ z, p .inLengths ∙ kept q _ _ z, p .bytes ∙ kept q _ _ z);
+          let cs₁ = kept q (counts (classes m)) noCounts z in
+          let ts₁ = kept q (length (tokens (classes m))) 0 z in
+          let ls₁ = kept q (lengthsOf passKinds m) (replicate 6 0) z in
+          (p .answer ∙ rw (cs₁, ts₁, ls₁, z), p .inClasses ∙ kept q _ _ z, p .inLengths ∙ kept q _ _ z, p .bytes ∙ kept q _ _ z);
       label = λ width m old new r p h.
           let q = labelNo width m old in
           let z : q ≡ 0 = sym (ap (λ (w : LabelWritten). w .refused) (p .answer)) ∙ h in
@@ -94,17 +102,21 @@ all-accepted =
       chartRecord = λ bytes old new r p h.
           let q = recordNo bytes old in
           let z : q ≡ 0 = sym (ap (λ (w : RecordAnswer). w .refused) (p .answer)) ∙ h in
-          (p .answer ∙ rw (kept q (length (densities (fieldsOf bytes))) 0 z, kept {A = ℕ} q 3 0 z, kept q (length (nameOf (fieldsOf bytes))) 0 z, z), p .placed ∙ kept q _ _ z);
+          let ds₁ = kept q (length (densities (fieldsOf bytes))) 0 z in
+          let name₁ = kept q (length (nameOf (fieldsOf bytes))) 0 z in
+          (p .answer ∙ rw (ds₁, kept {A = ℕ} q 3 0 z, name₁, z), p .placed ∙ kept q _ _ z);
       view = λ m q v o h. o .left ∙ kept _ m [] (sym (o .number) ∙ h);
       counts = λ m h. kept (firstNo (inDomain m ∷ [])) (counts (classes m)) noCounts h;
-      share = λ m h. kept (firstNo (inDomain m ∷ hasStream m ∷ [])) (share (classes m)) 0 h;
-      alike = λ a b h. kept (firstNo (inDomain a ∷ inDomain b ∷ [])) _ false h;
-      nthToken = λ k m h. ap (stepAt k) (kept (firstNo (inDomain m ∷ [])) m [] h);
+      share = λ m h. (kept (firstNo (inDomain m ∷ hasStream m ∷ [])) (share (classes m)) 0 h, share-most (classes m));
+      alike = λ a b h.
+          let x = text (standard Level.Detailed) a in
+          let y = text (standard Level.Detailed) b in
+          rw (kept (firstNo (inDomain a ∷ inDomain b ∷ [])) (sameBytes x y) false h) (same-exactly x y);
+      nthToken = λ k m h. kept (firstNo (inDomain m ∷ [])) (stepAt k m) noToken h;
       step = λ v said next s h.
           let e = kept (firstNo (inDomain v ∷ [])) v [] (within v h) in
           (s .token ∙ ap (stepAt 0) e, s .left ∙ ap afterStep e);
       segmentAt = λ k m h. kept-segment (firstNo (inDomain m ∷ [])) _ h;
-      firstSegments = λ m h. kept (segmentsNo m empties) _ _ h;
       sheet = λ input r p. rw (p .answer) (take-append-seam (sheetBytes input) _);
       class = λ d r s p q. one-class r s (p ∙ sym q);
       activeRange = active-part;

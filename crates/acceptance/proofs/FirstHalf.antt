@@ -1,7 +1,7 @@
 -- Demand 3, first half, holds: each promise is made of the chart's classes and the lent slices alone.
 -- Assumes nothing.
 use Prim.Native.Nat.{ℕ}
-use mathlib.Core.Path.{_≡_, refl, sym, _∙_}
+use mathlib.Core.Path.{_≡_, sym, _∙_}
 use mathlib.Core.List.{List}
 use Rattle.rules.specs.Chart.{classes}
 use Rattle.rules.proofs.Demand.{same-classes}
@@ -20,9 +20,8 @@ of-charts a b e =
       counts = same-counts a b e;
       share = same-share a b e;
       segmentAt = segments.same-nth a b e;
-      firstSegments = segments.same-placed a b e;
       nthToken = token-view.same-nth a b e;
-      segments = λ old new₁ new₂ r₁ r₂ p q. segments.same-segments a b e refl p q;
+      segments = λ old new₁ new₂ r₁ r₂ p q. segments.same-segments a b e p q;
       tokenView = λ n no₁ no₂ v₁ v₂ t₁ t₂ p q. token-view.same-view a b e p q;
       breakdown = λ k old new₁ new₂ r₁ r₂ p q. same-breakdown a b e k p q;
       breakdowns = λ ks old new₁ new₂ r₁ r₂ p q. same-breakdowns a b e ks p q;

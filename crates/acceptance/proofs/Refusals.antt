@@ -10,8 +10,9 @@ use Rattle.number.specs.Questions.{firstNo, accepted, filled}
 use Rattle.number.specs.declared.Written.{Written}
 use Rattle.rules.specs.Chart.{inDomain, classes, tokens, counts, noCounts}
 use Rattle.rules.specs.Texts.{passKinds, lengthsOf}
-use Rattle.rules.specs.Calls.{segments, share, labelChoice}
+use Rattle.rules.specs.Calls.{segments, share, stepAt, labelChoice}
 use Rattle.measures.specs.Answers.{hasStream}
+use Rattle.token_view.specs.Promises.{noToken}
 use Rattle.segments.specs.Promises.{segmentsNo, noSegment, firstSegment, nthSegment}
 use Rattle.rules.specs.declared.StreamSegment.{StreamSegment}
 use Rattle.segments.specs.declared.SegmentsAnswer.{SegmentsAnswer}
@@ -35,8 +36,8 @@ first-accepted : (ss : List StreamSegment) → firstSegment ss .refused ≡ 0
 first-accepted [] = refl
 first-accepted (s ∷ ss) = refl
 
-no-segment : (q : ℕ) (x : NthSegment) → x .refused ≡ 0 → (accepted q x (record { refused = q; found = false; segment = noSegment }) .refused ≢ 0)
-    → (accepted q x (record { refused = q; found = false; segment = noSegment }) .found ≡ false) × (accepted q x (record { refused = q; found = false; segment = noSegment }) .segment ≡ noSegment)
+no-segment : (q : ℕ) (x : NthSegment) → x .refused ≡ 0 → let a = accepted q x (record { refused = q; found = false; segment = noSegment }) in
+    (a .refused ≢ 0) → (a .found ≡ false) × (a .segment ≡ noSegment)
 no-segment zero x e h = absurd (h e)
 no-segment (suc q) x e h = (refl, refl)
 
@@ -55,12 +56,16 @@ refusals =
           let q = passNo m cs ns old in
           let e : r .refused ≡ q = ap (λ (w : StreamOutputs). w .refused) (p .answer) in
           let n : q ≢ 0 = λ z. h (e ∙ z) in
-          (p .answer ∙ rw (e, refused q (counts (classes m)) noCounts n, refused q (length (tokens (classes m))) 0 n, refused q (lengthsOf passKinds m) (replicate 6 0) n), p .inClasses ∙ refused q _ _ n, p .inLengths ∙ refused q _ _ n, p .bytes ∙ refused q _ _ n);
+          let cs₀ = refused q (counts (classes m)) noCounts n in
+          let ts₀ = refused q (length (tokens (classes m))) 0 n in
+          let ls₀ = refused q (lengthsOf passKinds m) (replicate 6 0) n in
+          (p .answer ∙ rw (e, cs₀, ts₀, ls₀), p .inClasses ∙ refused q _ _ n, p .inLengths ∙ refused q _ _ n, p .bytes ∙ refused q _ _ n);
       label = λ width m old new r p h.
           let q = labelNo width m old in
           let e : r .refused ≡ q = ap (λ (w : LabelWritten). w .refused) (p .answer) in
           let n : q ≢ 0 = λ z. h (e ∙ z) in
-          (p .answer ∙ rw (e, refused q (labelLevel (labelChoice width m)) 0 n, refused q (length (labelText (labelChoice width m) m)) 0 n), p .bytes ∙ refused q _ _ n);
+          let choice = labelChoice width m in
+          (p .answer ∙ rw (e, refused q (labelLevel choice) 0 n, refused q (length (labelText choice m)) 0 n), p .bytes ∙ refused q _ _ n);
       segments = λ m old new r p h.
           let q = segmentsNo m old in
           let e : r .refused ≡ q = ap (λ (w : SegmentsAnswer). w .refused) (p .answer) in
@@ -70,10 +75,13 @@ refusals =
           let q = recordNo bytes old in
           let e : r .refused ≡ q = ap (λ (w : RecordAnswer). w .refused) (p .answer) in
           let n : q ≢ 0 = λ z. h (e ∙ z) in
-          (p .answer ∙ rw (e, refused q (length (densities (fieldsOf bytes))) 0 n, refused {A = ℕ} q 3 0 n, refused q (length (nameOf (fieldsOf bytes))) 0 n), p .placed ∙ refused q _ _ n);
+          let ds₀ = refused q (length (densities (fieldsOf bytes))) 0 n in
+          let name₀ = refused q (length (nameOf (fieldsOf bytes))) 0 n in
+          (p .answer ∙ rw (e, ds₀, refused {A = ℕ} q 3 0 n, name₀), p .placed ∙ refused q _ _ n);
       view = λ m q v o h. o .left ∙ refused _ m [] (λ e. h (o .number ∙ e));
       counts = λ m h. refused (firstNo (inDomain m ∷ [])) (counts (classes m)) noCounts h;
       share = λ m h. refused (firstNo (inDomain m ∷ hasStream m ∷ [])) (share (classes m)) 0 h;
       alike = λ a b h. refused (firstNo (inDomain a ∷ inDomain b ∷ [])) _ false h;
-      segmentAt = λ k m h. no-segment (firstNo (inDomain m ∷ [])) (firstSegment (drop k (segments (classes m)))) (first-accepted (drop k (segments (classes m)))) h;
+      nthToken = λ k m h. refused (firstNo (inDomain m ∷ [])) (stepAt k m) noToken h;
+      segmentAt = λ k m h. let ss = drop k (segments (classes m)) in no-segment (firstNo (inDomain m ∷ [])) (firstSegment ss) (first-accepted ss) h;
     }

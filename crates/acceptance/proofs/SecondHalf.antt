@@ -1,6 +1,6 @@
 -- Demand 3, second half, holds: whatever a call wrote is document 01's text, and two texts are the same exactly when the reduced lists are.
 -- Assumes nothing.
-use Prim.Native.Nat.{ℕ, zero, suc, _+_}
+use Prim.Native.Nat.{ℕ, zero, suc}
 use mathlib.Core.Path.{_≡_, refl, sym, ap, _∙_}
 use mathlib.Core.List.{List, _++_}
 use native.Mathlib.Omega.{arith}
@@ -54,7 +54,8 @@ level-one Level.Total Level.Simple e = absurd (omega (arith, e))
 level-one Level.Total Level.Total e = refl
 
 -- the level that a label answers is the one whose text it wrote
-labelled : (q : ℕ) (c : LabelChoice) (l : StreamBreakdownLevel) (m : List ℕ) → q ≡ 0 → levelNumber l ≡ accepted q (labelLevel c) 0 → labelText c m ≡ text (standard l) m
+labelled : (q : ℕ) (c : LabelChoice) (l : StreamBreakdownLevel) (m : List ℕ) → q ≡ 0 → levelNumber l ≡ accepted q (labelLevel c) 0
+    → labelText c m ≡ text (standard l) m
 labelled zero (Fits k) l m e h = ap (λ (j : StreamBreakdownLevel). text (standard j) m) (level-one k l (sym h))
 labelled zero NoneFits Level.Detailed m e h = absurd (omega (arith, h))
 labelled zero NoneFits Level.Partial m e h = absurd (omega (arith, h))
@@ -69,7 +70,8 @@ printed-text i k input r h p e =
     let m = chartOf input in
     let texts = textLines sheetKinds m in
     let counted = line (countsLine (counts (classes m))) ++ texts in
-    let all : take (r .length) (r .bytes) ≡ line (nameOf (fieldsOf input)) ++ counted = rw (p .answer) (take-append-seam (sheetBytes input) _) ∙ sheet-lines input e in
+    let all : take (r .length) (r .bytes) ≡ line (nameOf (fieldsOf input)) ++ counted =
+    rw (p .answer) (take-append-seam (sheetBytes input) _) ∙ sheet-lines input e in
     ap (lineAt (suc (suc i))) all
     ∙ ap (λ (l : List ℕ). lineAt i (afterLine l)) (after-line counted (one-line-name input e))
     ∙ ap (lineAt i) (after-line texts (counts-line (counts (classes m))))
@@ -77,15 +79,18 @@ printed-text i k input r h p e =
 
 pub written-text : {k : Kind} {m x : List ℕ} → TextWritten k m x → x ≡ text k m
 written-text (single k m old new r p e) =
-    marked-off _ (text k m) old new (r .length) (sym (ap (λ (w : Written). w .refused) (p .answer)) ∙ e) (ap (λ (w : Written). w .length) (p .answer)) (p .bytes)
+    let accept = sym (ap (λ (w : Written). w .refused) (p .answer)) ∙ e in
+    marked-off _ (text k m) old new (r .length) accept (ap (λ (w : Written). w .length) (p .answer)) (p .bytes)
 written-text (three ks i k m old new r h p e) =
-    several _ ks i k m old new (r .lengths) _ h (sym (ap (λ (w : ThreeWritten). w .refused) (p .answer)) ∙ e) (ap (λ (w : ThreeWritten). w .lengths) (p .answer)) (p .bytes)
+    let accept = sym (ap (λ (w : ThreeWritten). w .refused) (p .answer)) ∙ e in
+    several _ ks i k m old new (r .lengths) _ h accept (ap (λ (w : ThreeWritten). w .lengths) (p .answer)) (p .bytes)
 written-text (pass i k m cs cs′ ns ns′ old new r h p e) =
-    several _ passKinds i k m old new (r .lengths) _ h (sym (ap (λ (w : StreamOutputs). w .refused) (p .answer)) ∙ e) (ap (λ (w : StreamOutputs). w .lengths) (p .answer)) (p .bytes)
+    let accept = sym (ap (λ (w : StreamOutputs). w .refused) (p .answer)) ∙ e in
+    several _ passKinds i k m old new (r .lengths) _ h accept (ap (λ (w : StreamOutputs). w .lengths) (p .answer)) (p .bytes)
 written-text (label width l m old new r p e h) =
-    let zero-no = sym (ap (λ (w : LabelWritten). w .refused) (p .answer)) ∙ e in
-    marked-off _ (labelText (labelChoice width m) m) old new (r .length) zero-no (ap (λ (w : LabelWritten). w .length) (p .answer)) (p .bytes)
-    ∙ labelled _ (labelChoice width m) l m zero-no (sym h ∙ ap (λ (w : LabelWritten). w .level) (p .answer))
+    let accept = sym (ap (λ (w : LabelWritten). w .refused) (p .answer)) ∙ e in
+    marked-off _ (labelText (labelChoice width m) m) old new (r .length) accept (ap (λ (w : LabelWritten). w .length) (p .answer)) (p .bytes)
+    ∙ labelled _ (labelChoice width m) l m accept (sym h ∙ ap (λ (w : LabelWritten). w .level) (p .answer))
 written-text (sheet i k input r h p e) = printed-text i k input r h p e
 
 pub second-half : SecondHalf

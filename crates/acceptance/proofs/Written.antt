@@ -1,6 +1,6 @@
 -- Whatever an accepted call wrote as the text of a kind is document 01's text.
 -- Assumes nothing.
-use Prim.Native.Nat.{ℕ, zero, suc, _+_}
+use Prim.Native.Nat.{ℕ, zero, suc}
 use mathlib.Core.Path.{_≡_, refl, ap, _∙_}
 use mathlib.Core.List.{List, [], _∷_, _++_, append-assoc}
 use native.Mathlib.Omega.{arith}
@@ -24,7 +24,8 @@ pub nth-text : (ks : List Kind) (i : ℕ) (k : Kind) (m rest : List ℕ) → Kin
 nth-text [] i k m rest h = absurd h
 nth-text (k ∷ ks) zero k′ m rest h = rw append-assoc (take-append-seam (text k m) (endToEnd ks m ++ rest) ∙ ap (λ (j : Kind). text j m) h)
 nth-text (k ∷ ks) (suc i) k′ m rest h =
-    ap (nth (lengthsOf ks m) i) (ap (drop (length (text k m))) (append-assoc (text k m) (endToEnd ks m) rest) ∙ drop-append-seam (text k m) (endToEnd ks m ++ rest))
+    ap (nth (lengthsOf ks m) i)
+    (ap (drop (length (text k m))) (append-assoc (text k m) (endToEnd ks m) rest) ∙ drop-append-seam (text k m) (endToEnd ks m ++ rest))
     ∙ nth-text ks i k′ m rest h
 
 -- lines

@@ -4,6 +4,8 @@
 -- Assumes nothing.
 use Prim.Native.Nat.{ℕ, _≤_}
 use mathlib.Core.Path.{_≡_}
+use mathlib.Core.Logic.{_↔_}
+use mathlib.Core.Bool.{true}
 use mathlib.Core.List.{List, map}
 use lib.ListN.{length, take, drop}
 use Rattle.number.specs.Questions.{filled, OneText}
@@ -17,9 +19,9 @@ use Rattle.rules.specs.declared.RunDensity.{RunDensity}
 use Rattle.rules.specs.declared.StreamSegment.{StreamSegment}
 use Rattle.rules.specs.declared.ViewToken.{ViewToken}
 use Rattle.rules.specs.declared.StreamBreakdownLevel.the-variants as Level
-use Rattle.measures.specs.Answers.{countsAnswer, shareAnswer, alikeAnswer, sameBytes}
+use Rattle.measures.specs.Answers.{countsAnswer, shareAnswer, alikeAnswer}
 use Rattle.token_view.specs.Promises.{Opening, Step, nthAnswer}
-use Rattle.segments.specs.Promises.{segmentsNo, Segmented, firstSegment, nthSegment, empties, placed}
+use Rattle.segments.specs.Promises.{Segmented, firstSegment, nthSegment}
 use Rattle.segments.specs.declared.SegmentsAnswer.{SegmentsAnswer}
 use Rattle.record.specs.Record.{fieldsOf, densities, nameOf}
 use Rattle.record.specs.Promises.{ReadRecord}
@@ -50,9 +52,8 @@ pub record Accepted : Type 0 where
   pub label : (width : ℕ) (m old new : List ℕ) (r : LabelWritten) → Label width m old new r → r .refused ≡ 0
       → (r ≡ record { refused = 0; level = labelLevel (labelChoice width m); length = length (labelText (labelChoice width m) m) })
       × (new ≡ filled old (labelText (labelChoice width m) m))
-  -- segment_at, first_segments, stream_sequences
+  -- segment_at, stream_sequences
   pub segmentAt : (k : ℕ) (m : List ℕ) → nthSegment k m .refused ≡ 0 → nthSegment k m ≡ firstSegment (drop k (segments (classes m)))
-  pub firstSegments : (m : List ℕ) → segmentsNo m empties ≡ 0 → placed m ≡ filled empties (segments (classes m))
   pub segments : (m : List ℕ) (old new : List StreamSegment) (r : SegmentsAnswer) → Segmented m old new r → r .refused ≡ 0
       → (r .count ≡ length (segments (classes m))) × (new ≡ filled old (segments (classes m)))
   -- read_chart_record
@@ -64,9 +65,9 @@ pub record Accepted : Type 0 where
   pub step : (v : List ℕ) (said : ViewToken) (next : List ℕ) → Step v said next → length v ≤ 1048576 → (said ≡ stepAt 0 v) × (next ≡ afterStep v)
   -- calls that lend no slice but the chart's own
   pub counts : (m : List ℕ) → countsAnswer m .refused ≡ 0 → countsAnswer m .counts ≡ counts (classes m)
-  pub share : (m : List ℕ) → shareAnswer m .refused ≡ 0 → shareAnswer m .share ≡ share (classes m)
+  pub share : (m : List ℕ) → shareAnswer m .refused ≡ 0 → (shareAnswer m .share ≡ share (classes m)) × (share (classes m) ≤ 10000)
   pub alike : (a b : List ℕ) → alikeAnswer a b .refused ≡ 0
-      → alikeAnswer a b .alike ≡ sameBytes (text (standard Level.Detailed) a) (text (standard Level.Detailed) b)
+      → (alikeAnswer a b .alike ≡ true) ↔ (text (standard Level.Detailed) a ≡ text (standard Level.Detailed) b)
   pub nthToken : (k : ℕ) (m : List ℕ) → nthAnswer k m .refused ≡ 0 → nthAnswer k m .token ≡ stepAt k m
   -- print_sheet: the bytes to print
   pub sheet : (input : List ℕ) (r : Sheet) → Printed input r → take (r .length) (r .bytes) ≡ sheetBytes input

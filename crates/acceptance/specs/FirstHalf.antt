@@ -13,7 +13,7 @@ use Rattle.rules.specs.declared.ViewToken.{ViewToken}
 use Rattle.measures.specs.Answers.{countsAnswer, shareAnswer, alikeAnswer}
 use Rattle.token_view.specs.Promises.{nthAnswer}
 use Rattle.token_view.specs.Steps.{Stepped}
-use Rattle.segments.specs.Promises.{Segmented, nthSegment, placed}
+use Rattle.segments.specs.Promises.{Segmented, nthSegment}
 use Rattle.segments.specs.declared.SegmentsAnswer.{SegmentsAnswer}
 use Rattle.chart_texts.specs.Promises.{Breakdown, Breakdowns}
 use Rattle.chart_texts.specs.declared.ThreeWritten.{ThreeWritten}
@@ -27,11 +27,10 @@ use Rattle.sheet_lines.specs.declared.Sheet.{Sheet}
 
 -- the calls on a chart given as a density slice
 pub record OfCharts (a b : List ℕ) : Type 0 where
-  -- compute_stream_counts, share, segment_at, first_segments and nth_token lend no slice but the chart's own
+  -- compute_stream_counts, share, segment_at and nth_token lend no slice but the chart's own
   pub counts : countsAnswer a ≡ countsAnswer b
   pub share : shareAnswer a ≡ shareAnswer b
   pub segmentAt : (k : ℕ) → nthSegment k a ≡ nthSegment k b
-  pub firstSegments : placed a ≡ placed b
   pub nthToken : (k : ℕ) → nthAnswer k a ≡ nthAnswer k b
   -- stream_sequences
   pub segments : (old new₁ new₂ : List StreamSegment) (r₁ r₂ : SegmentsAnswer)

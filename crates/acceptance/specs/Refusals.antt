@@ -15,7 +15,7 @@ use Rattle.rules.specs.Chart.{noCounts}
 use Rattle.rules.specs.declared.Kind.{Kind}
 use Rattle.rules.specs.declared.StreamSegment.{StreamSegment}
 use Rattle.measures.specs.Answers.{countsAnswer, shareAnswer, alikeAnswer}
-use Rattle.token_view.specs.Promises.{Opening}
+use Rattle.token_view.specs.Promises.{Opening, noToken, nthAnswer}
 use Rattle.segments.specs.Promises.{Segmented, noSegment, nthSegment}
 use Rattle.segments.specs.declared.SegmentsAnswer.{SegmentsAnswer}
 use Rattle.record.specs.Promises.{ReadRecord}
@@ -52,4 +52,5 @@ pub record Refusals : Type 0 where
   pub counts : (m : List ℕ) → countsAnswer m .refused ≢ 0 → countsAnswer m .counts ≡ noCounts
   pub share : (m : List ℕ) → shareAnswer m .refused ≢ 0 → shareAnswer m .share ≡ 0
   pub alike : (a b : List ℕ) → alikeAnswer a b .refused ≢ 0 → alikeAnswer a b .alike ≡ false
+  pub nthToken : (k : ℕ) (m : List ℕ) → nthAnswer k m .refused ≢ 0 → nthAnswer k m .token ≡ noToken
   pub segmentAt : (k : ℕ) (m : List ℕ) → nthSegment k m .refused ≢ 0 → (nthSegment k m .found ≡ false) × (nthSegment k m .segment ≡ noSegment)

@@ -53,7 +53,7 @@ abbrev pub lineAt : ℕ → List ℕ → List ℕ
 lineAt zero bytes = firstLine bytes
 lineAt (suc i) bytes = lineAt i (afterLine bytes)
 
--- `Wrote k m text`: an accepted call wrote the text of kind k of the chart m as these bytes
+-- `TextWritten k m text`: an accepted call wrote the text of kind k of the chart m as these bytes
 pub data TextWritten : Kind → List ℕ → List ℕ → Type 0 where
   -- generate_breakdown, stream_breakdown
   single : (k : Kind) (m old new : List ℕ) (r : Written) → Breakdown k m old new r → r .refused ≡ 0 → TextWritten k m (take (r .length) new)
@@ -74,4 +74,5 @@ pub record SecondHalf : Type 0 where
   pub exactly : (k : Kind) (a b x y : List ℕ) → TextWritten k a x → TextWritten k b y → (x ≡ y) ↔ (reduced k (classes a) ≡ reduced k (classes b))
   -- "For the standard detailed text that means: neither has a stream measure, or their active parts are equally long and have stream measures
   -- at the same places, counted from the part's first measure."
-  pub detailed : (a b x y : List ℕ) → TextWritten (standard Level.Detailed) a x → TextWritten (standard Level.Detailed) b y → (x ≡ y) ↔ SameStreams (classes a) (classes b)
+  pub detailed : (a b x y : List ℕ) → TextWritten (standard Level.Detailed) a x → TextWritten (standard Level.Detailed) b y
+      → (x ≡ y) ↔ SameStreams (classes a) (classes b)

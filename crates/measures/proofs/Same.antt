@@ -95,6 +95,10 @@ same-bytes (n ∷ x) (k ∷ y) e =
     let t = and-eq-true-iff (eqb n k) (sameBytes x y) .0 e in
     rw (eqb-true n k (t .0), same-bytes x y (t .1))
 
+-- the test says yes exactly when the texts are the same
+pub same-exactly : (x y : List ℕ) → (sameBytes x y ≡ true) ↔ (x ≡ y)
+same-exactly x y = (same-bytes x y, λ e. rw e (bytes-same y))
+
 both-ways : (r s : Bool) → (r ≡ true → s ≡ true) → (s ≡ true → r ≡ true) → r ≡ s
 both-ways true s f g = sym (f refl)
 both-ways false true f g = g refl

@@ -87,7 +87,8 @@ pub extern "C" fn pv_segment_at(m: &[u32], k: usize) -> NthSegment
     segment_at(m, k)
 }
 
-// The token view: a caller keeps the measures that are left, asks for step number 0 of them and moves on by the token's length.
+// The token view: a caller keeps the measures that are left, asks for step number 0 of them and moves on by the token's length. A refused
+// answer is not ended.
 #[no_mangle]
 pub extern "C" fn pv_nth_token(m: &[u32], k: usize) -> NthToken
     ensures { λ r. ⌜ r ≡ nthAnswer k (now (m .entry)) ⌝ }

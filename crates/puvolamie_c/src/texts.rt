@@ -139,7 +139,8 @@ pub extern "C" fn pv_compute_stream_outputs(
     lengths: &mut [u32],
     out: &mut [u8],
 ) -> StreamOutputs
-    ensures { λ r. ⌜ Outputs (now (m .entry)) (now (classes .entry)) (now (classes .exit)) (now (lengths .entry)) (now (lengths .exit)) (now (out .entry)) (now (out .exit)) r ⌝ }
+    ensures { λ r. ⌜ Outputs (now (m .entry)) (now (classes .entry)) (now (classes .exit))
+        (now (lengths .entry)) (now (lengths .exit)) (now (out .entry)) (now (out .exit)) r ⌝ }
 {
     compute_stream_outputs(m, classes, lengths, out)
 }

@@ -7,8 +7,6 @@ use measures::alike::alike;
 use measures::counts::compute_stream_counts;
 use measures::share::share;
 use rules::StreamCounts;
-use rules::StreamSegment;
-use segments::first_segments;
 use segments::segment_at;
 use token_view::nth_token;
 ghost use Rattle.io.specs.Counts.{Counts};
@@ -99,31 +97,23 @@ fn put_token(out: &mut [u8], at: usize, class: u8, length: u32) -> usize
     put(out, class_end, b":", length as u64)
 }
 
-// A word, and behind it the segments of `m` as `first_segments` and `segment_at` both have them.
+// A word, and behind it the segments of `m`.
 fn put_segments(out: &mut [u8], at: usize, word: &[u8], m: &[u32]) -> usize
     ensures { λ r. ⌜ Counts r (now (out .exit)) ⌝ }
 {
     let mut end = put_bytes(out, at, word);
-    let places = first_segments(m);
     let mut k = 0;
-    // No chart of the list has so many.
-    while k < 64 {
+    // A chart has no more segments than measures.
+    while k < m.len() {
         let answer = segment_at(m, k);
-        let segment = answer.segment;
-        if differ(segment, places[k]) {
-            return put_bytes(out, end, b" differs");
-        }
         if !answer.found {
             return end;
         }
+        let segment = answer.segment;
         end = put_segment(out, end, segment.start, segment.end, segment.is_break);
         k += 1;
     }
     end
-}
-
-fn differ(a: StreamSegment, b: StreamSegment) -> bool {
-    a.start != b.start || a.end != b.end || a.is_break != b.is_break
 }
 
 fn put_segment(out: &mut [u8], at: usize, start: usize, end: usize, is_break: bool) -> usize

@@ -2,4 +2,3 @@ pub mod Stretches
 pub mod Answers
 pub mod Written
 pub mod Same
-pub mod ArrayLent

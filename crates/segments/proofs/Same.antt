@@ -7,19 +7,16 @@ use lib.ListN.{length}
 use Rattle.rules.specs.Chart.{classes}
 use Rattle.rules.specs.declared.StreamSegment.{StreamSegment}
 use Rattle.rules.proofs.Demand.{same-length}
-use Rattle.segments.specs.Promises.{Segmented, placed, nthSegment}
+use Rattle.segments.specs.Promises.{Segmented, nthSegment}
 use Rattle.segments.specs.declared.SegmentsAnswer.{SegmentsAnswer}
 
 module _ (a b : List ℕ) (same : classes a ≡ classes b) where
   long : length a ≡ length b
   long = same-length a b same
 
-  pub same-segments : {old old′ new new′ : List StreamSegment} {r r′ : SegmentsAnswer} → old ≡ old′ → Segmented a old new r → Segmented b old′ new′ r′ → (r ≡ r′) × (new ≡ new′)
-  same-segments e p q = (p .answer ∙ rw (long, same, e) (sym (q .answer)), p .records ∙ rw (long, same, e) (sym (q .records)))
+  pub same-segments : {old new new′ : List StreamSegment} {r r′ : SegmentsAnswer} → Segmented a old new r → Segmented b old new′ r′ → (r ≡ r′) × (new ≡ new′)
+  same-segments p q = (p .answer ∙ rw (long, same) (sym (q .answer)), p .records ∙ rw (long, same) (sym (q .records)))
 
   pub same-nth : (k : ℕ) → nthSegment k a ≡ nthSegment k b
   unfolding nthSegment
   same-nth k = rw (long, same)
-
-  pub same-placed : placed a ≡ placed b
-  same-placed = rw (long, same)

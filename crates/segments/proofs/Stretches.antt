@@ -79,7 +79,7 @@ module _ (at : ℕ) where
 
   -- without a gap in front: a piece
   piece-first : (cs : List ℕ) → 0 < length cs → leading 0 (map flat cs) ≡ 0
-      → segmentsAt at (runs (map flat cs)) ≡ piece at (leading 1 (map flat cs)) ∷ segmentsAt (at + leading 1 (map flat cs)) (runs (drop (leading 1 (map flat cs)) (map flat cs)))
+      → let n = leading 1 (map flat cs) in segmentsAt at (runs (map flat cs)) ≡ piece at n ∷ segmentsAt (at + n) (runs (drop n (map flat cs)))
   piece-first [] h e = absurd (omega arith)
   piece-first (zero ∷ cs) h e = absurd (omega arith)
   piece-first (suc c ∷ cs) h e = rw (first-run 1 1 (map flat cs), one-add)

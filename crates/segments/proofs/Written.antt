@@ -72,8 +72,8 @@ module _ (m : List ℕ) where
       let sum : k + 1 + length ss ≡ k + suc (length ss) = omega arith in
       (refl, refl, refl, rw more (left-from ss (s .end) (k + 1) a more (rw sum is)))
 
-  left-all : (at : ℕ) → segmentsFrom m at ≡ segments (classes m) → Left m (record { refused = 0; count = length (segments (classes m)) }) 0 (segments (classes m)) (turnOf (stepOf (segments (classes m))) 0 0)
-  left-all at e = left-from (segments (classes m)) at 0 _ e (let z : 0 + length (segments (classes m)) ≡ length (segments (classes m)) = omega arith in rw z)
+  left-all : (at : ℕ) (ss : List StreamSegment) → segmentsFrom m at ≡ ss → Left m (record { refused = 0; count = length ss }) 0 ss (turnOf (stepOf ss) 0 0)
+  left-all at ss e = left-from ss at 0 _ e (let z : 0 + length ss ≡ length ss = omega arith in rw z)
 
   pub first-left : (old : List StreamSegment) → Left m (answerOf m old) 0 (due m old) (initialTurn m (length old))
   unfolding initialTurn
@@ -83,6 +83,6 @@ module _ (m : List ℕ) where
           (accepted n (turnOf (stepOf (segments (classes m))) 0 0) (turnOf Done 0 n))
       by-number zero =
           split (ltb (stretch false m 0) (length m))
-          (λ h. left-all 0 (from-start m (ltb-true _ _ h)))
-          (λ h. left-all (stretch false m 0) (from-last m (ltb-false _ _ h) _ refl))
+          (λ h. left-all 0 _ (from-start m (ltb-true _ _ h)))
+          (λ h. left-all (stretch false m 0) _ (from-last m (ltb-false _ _ h) _ refl))
       by-number (suc n) = (refl, refl)

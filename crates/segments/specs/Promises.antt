@@ -5,7 +5,7 @@ use mathlib.Core.Path.{_≡_}
 use mathlib.Core.Bool.{true, false}
 use mathlib.Core.List.{List, [], _∷_}
 use lib.Dec.{leb}
-use lib.ListN.{length, drop, replicate}
+use lib.ListN.{length, drop}
 use Rattle.number.specs.Questions.{Question, question, firstNo, accepted, filled}
 use Rattle.rules.specs.Chart.{inDomain, classes}
 use Rattle.rules.specs.Calls.{segments}
@@ -29,14 +29,6 @@ pub record Segmented (m : List ℕ) (old new : List StreamSegment) (r : Segments
 -- what stands where there is no segment
 abbrev pub noSegment : StreamSegment
 noSegment = record { start = 0; end = 0; «is_break» = false }
-
--- 64 places with no segment in them
-abbrev pub empties : List StreamSegment
-empties = replicate 64 noSegment
-
--- first_segments: what stream_sequences leaves in those places
-abbrev pub placed : List ℕ → List StreamSegment
-placed m = accepted (segmentsNo m empties) (filled empties (segments (classes m))) empties
 
 -- the first of some segments, if there is one
 abbrev pub firstSegment : List StreamSegment → NthSegment

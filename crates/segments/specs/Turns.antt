@@ -30,10 +30,10 @@ unfoldable pub initialTurn : List ℕ → ℕ → Turn
 initialTurn m n =
     accepted (firstNoOf m n) (turnOf (stepOf (segments (classes m))) 0 0) (turnOf Done 0 (firstNoOf m n))
 
--- the turn after t ..
+-- the turn after t
 unfoldable pub nextTurn : List ℕ → Turn → Turn
 nextTurn m t = turnOf (stepOf (segmentsFrom m (t .next .at))) (t .place + 1) 0
 
--- .. whose place must be a usize
+-- next_turn asks that the place of the turn after t is a usize
 pub record NextPlace (t : Turn) : Type 0 where
   pub fits : t .place + 1 < 2 ^ 64

@@ -9,7 +9,7 @@ use crate::turns::first_turn;
 use crate::turns::next_turn;
 use rules::StreamSegment;
 ghost use mathlib.Core.Path.{_≡_};
-ghost use Rattle.segments.specs.Promises.{Segmented, placed, nthSegment};
+ghost use Rattle.segments.specs.Promises.{Segmented, nthSegment};
 
 // The refusal's number, 0 where the call is accepted, and how many records were written.
 #[repr(C)]
@@ -36,19 +36,6 @@ pub fn stream_sequences(measures: &[u32], out: &mut [StreamSegment]) -> Segments
         t = next_turn(measures, t);
     }
     t.answer
-}
-
-// The chart's segments in 64 places by value, for callers that lend no slice: none is written where there are more.
-pub fn first_segments(measures: &[u32]) -> [StreamSegment; 64]
-    ensures { λ r. ⌜ r ≡ placed (now (measures .entry)) ⌝ }
-{
-    let mut places = [StreamSegment {
-        start: 0,
-        end: 0,
-        is_break: false,
-    }; 64];
-    stream_sequences(measures, &mut places);
-    places
 }
 
 // Segment number `k`, from 0, for callers that lend no slice: refused with 1 outside the domain.

@@ -43,4 +43,4 @@ module _ (a b : List ℕ) (e : classes a ≡ classes b) where
   )
 
   pub same-nth : (k : ℕ) → nthAnswer k a ≡ nthAnswer k b
-  same-nth k = cc (same-number, same-steps k (admitted a) (admitted b) same-admitted)
+  same-nth k = rw (same-number, same-steps k a b e)

@@ -16,7 +16,7 @@ use Rattle.rules.specs.Calls.{stepAt, afterStep, afterSteps, admitted}
 use Rattle.rules.specs.declared.ViewToken.{ViewToken}
 use Rattle.rules.proofs.Domain.{within}
 use Rattle.rules.proofs.View.{steps-follow}
-use Rattle.token_view.specs.Promises.{Opening, Step, nthAnswer}
+use Rattle.token_view.specs.Promises.{Opening, Step, noToken, nthAnswer}
 
 -- what `&m[n..]` holds
 pub part-from : (n : ℕ) (m : List ℕ) → take (length m - n) (drop n m) ≡ drop n m
@@ -36,9 +36,6 @@ module _ (m : List ℕ) where
   pub few : length (admitted m) ≤ 1048576
   few = split (leb (length m) 1048576) (λ e. rw e (leb-true _ _ e)) (λ e. rw e (omega arith))
 
-  pub fewer : length (admitted m) ≤ length m
-  fewer = split (leb (length m) 1048576) (λ e. rw e (omega arith)) (λ e. rw e (omega arith))
-
 -- a step past the end says ended and leaves an empty view
 pub past-end : {said : ViewToken} {next : List ℕ} → Step [] said next → (said ≡ record { ended = true; class = 0; length = 0 }) × (next ≡ [])
 unfolding stepAt
@@ -53,14 +50,24 @@ tokens-few [] = omega arith
 tokens-few (d ∷ m) = omega (arith, runs-few (classOf d) 1 (classes m), length-map m classOf)
 
 -- there are no more tokens than measures, so after as many steps every step says ended
-pub ended-after : (k : ℕ) (m : List ℕ) → length m ≤ k → stepAt k m ≡ record { ended = true; class = 0; length = 0 }
+ended-after : (k : ℕ) (m : List ℕ) → length m ≤ k → stepAt k m ≡ record { ended = true; class = 0; length = 0 }
 unfolding stepAt
 ended-after k m h =
     let few-enough : length (runs (classes m)) ≤ k = omega (arith, tokens-few m) in
     rw (drop-of-length-le (runs (classes m)) few-enough)
 
-pub nth-ended : (k : ℕ) (m : List ℕ) → length m ≤ k → nthAnswer (length m) m ≡ nthAnswer k m
-nth-ended k m h = rw (ended-after (length m) (admitted m) (fewer m), ended-after k (admitted m) (omega (arith, fewer m)))
+pub ended-alike : (k : ℕ) (m : List ℕ) → length m ≤ k → stepAt (length m) m ≡ stepAt k m
+ended-alike k m h = ended-after (length m) m (omega arith) ∙ sym (ended-after k m h)
+
+-- nth_token's answer, by the first no
+module _ (k : ℕ) (m : List ℕ) where
+  pub nth-refused : (q : ℕ) → q ≡ firstNo (inDomain m ∷ []) → (q ≡ 0 → ⊥) → record { refused = q; token = noToken } ≡ nthAnswer k m
+  nth-refused zero e other = absurd (other refl)
+  nth-refused (suc q) e other = rw (← e)
+
+  pub nth-accepted : (q : ℕ) (said : ViewToken) → q ≡ firstNo (inDomain m ∷ []) → q ≡ 0 → said ≡ stepAt k m
+      → record { refused = q; token = said } ≡ nthAnswer k m
+  nth-accepted q said e z t = rw (← e, z, t)
 
 -- one step more
 pub step-more : (k : ℕ) (m : List ℕ) → afterStep (afterSteps k m) ≡ afterSteps (suc k) m

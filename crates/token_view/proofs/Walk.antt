@@ -19,7 +19,8 @@ use base.Fml.{Lft, Share, Fml, ftrue, flft}
 use prog.Wp.{Heap}
 use ghost.Atoms.{Atoms, sem}
 use contract.Monad.{fact}
-use types.Kit.{Given, Item, Goal, Soaks, Seq, ‵, raw, _⊛_, ⋆, mean, given, some, later, _$_, _∵_, !, qed, move, drop, learn, use1, use2, split, pick, join, fjoin, await, frame, done}
+use types.Kit.{Given, Item, Goal, Soaks, Seq, ‵, raw, _⊛_, ⋆, mean, given, some, later, _$_, _∵_}
+use types.Kit.{ !, qed, move, drop, learn, use1, use2, split, pick, join, fjoin, await, frame, done}
 use denote.RattleType.{RattleType, owns}
 use denote.Laws.{Is, shows}
 use denote.Builtin.{u32}
@@ -42,25 +43,32 @@ Own κ s = ShrSlice (named 0) κ u32 .own s (slice-vals s)
 module _ {M : Type 1} (𝓤 : URA M) (H : Heap 𝓤) (A : Atoms 𝓤) (W : Given 𝓤 H A) (κ : Lft) (q : Share) (s : RefT (List ℕ)) where
   pub lent : (P : SProp 𝓤) → ent 𝓤 (⋆ 𝓤 H A (Live κ q ∷ ‵ (Own κ s) ∷ [])) P → ent 𝓤 (⋆ 𝓤 H A (Live κ q ∷ ‵ (Own κ s) ∷ [])) (sep 𝓤 P (sem 𝓤 H A (Own κ s)))
   lent P asked =
-      qed W (Live κ q ∷ ‵ (Own κ s) ∷ []) ∵ move ! (1 ∷ []) $ use1 W (‵ (Own κ s) ⊛ ‵ (Own κ s)) (shr-slice-copy 𝓤 H A W (named 0) κ u32 .twice s (slice-vals s)) $ split ! $
+      qed W (Live κ q ∷ ‵ (Own κ s) ∷ []) ∵ move ! (1 ∷ []) $ use1 W (‵ (Own κ s) ⊛ ‵ (Own κ s))
+      (shr-slice-copy 𝓤 H A W (named 0) κ u32 .twice s (slice-vals s)) $ split ! $
       move ! (2 ∷ 0 ∷ []) $ use2 W (raw P) asked $ frame ! $ done !
 
-  pub lent-alone : ent 𝓤 (⋆ 𝓤 H A (Live κ q ∷ ‵ (Own κ s) ∷ [])) (sep 𝓤 (sep 𝓤 (sep 𝓤 (mean 𝓤 H A (Live κ q)) (sem 𝓤 H A (owns (ShrSlice (named 0) κ u32 ∷ []) (s, tt) (slice-vals s, tt)))) (emp 𝓤)) (sem 𝓤 H A (Own κ s)))
+  pub lent-alone : ent 𝓤 (⋆ 𝓤 H A (Live κ q ∷ ‵ (Own κ s) ∷ [])) (sep 𝓤
+      (sep 𝓤 (sep 𝓤 (mean 𝓤 H A (Live κ q)) (sem 𝓤 H A (owns (ShrSlice (named 0) κ u32 ∷ []) (s, tt) (slice-vals s, tt)))) (emp 𝓤)) (sem 𝓤 H A (Own κ s)))
   lent-alone = lent _ (qed W (Live κ q ∷ ‵ (Own κ s) ∷ []) ∵ nothing ! $ move ! (2 ∷ 0 ∷ []) $ fjoin ! $ move ! (1 ∷ 0 ∷ []) $ join ! $ frame ! $ done !)
 
 module _ {M : Type 1} (𝓤 : URA M) (H : Heap 𝓤) (A : Atoms 𝓤) (W : Given 𝓤 H A) (N : Declared) (L : LL.Laws N) (k : ℕ) (v : Values (N .parts)) where
   pub taken : (w : Val) → ent 𝓤 (sem 𝓤 H A (Struct (shape N) .own (intos (N .parts) v) (w ∷ []))) (sem 𝓤 H A (ownAt (N .parts) L k (getAt (N .parts) k v)))
   taken w =
-      qed W (‵ (Struct (shape N) .own (intos (N .parts) v) (w ∷ [])) ∷ []) ∵ use1 W (given (w ∷ [] ≡ vstruct (spelled (N .parts) L v) ∷ []) (‵ (all-own (N .parts) L v))) (own-open 𝓤 H A W N L v w) $ learn ! (λ _.
-      use1 W (‵ (ownAt (N .parts) L k (getAt (N .parts) k v)) ⊛ ‵ (rest (N .parts) L k v)) (own-out 𝓤 H A W (N .parts) L k v) $ split ! $ move ! (1 ∷ []) $ drop ! $ done !)
+      qed W (‵ (Struct (shape N) .own (intos (N .parts) v) (w ∷ [])) ∷ []) ∵ use1 W
+      (given (w ∷ [] ≡ vstruct (spelled (N .parts) L v) ∷ []) (‵ (all-own (N .parts) L v))) (own-open 𝓤 H A W N L v w) $ learn ! (λ _.
+      use1 W (‵ (ownAt (N .parts) L k (getAt (N .parts) k v)) ⊛ ‵ (rest (N .parts) L k v)) (own-out 𝓤 H A W (N .parts) L k v) $ split ! $ move ! (1 ∷ []) $
+      drop ! $ done !)
 
 module _ {M : Type 1} {𝓤 : URA M} {H : Heap 𝓤} {A : Atoms 𝓤} {K : Type 0} {W : Given 𝓤 H A} {Γ : List (Item 𝓤)} {G : Goal 𝓤 H} where
   pub returned : K → Soaks G → (κ : Lft) (q : Share) (u : Val) (R : RattleType) {X : Type 0} (F : X → Fml) (φ : R .Denot → Type 0)
       → ((r : R .Denot) → φ r → Is R r (u ∷ []) → Seq K W (‵ (R .own r (u ∷ [])) ∷ Live κ q ∷ Γ) G)
-      → Seq K W (raw (H .⇛ (ex 𝓤 (λ (r : R .Denot). sep 𝓤 (sep 𝓤 (mean 𝓤 H A (Live κ q)) (sem 𝓤 H A (R .own r (u ∷ [])))) (ex 𝓤 (λ (ws : X). sep 𝓤 (sem 𝓤 H A (F ws)) (fact 𝓤 (φ r))))))) ∷ Γ) G
+      → Seq K W (raw (H .⇛ (ex 𝓤 (λ (r : R .Denot). sep 𝓤 (sep 𝓤 (mean 𝓤 H A (Live κ q)) (sem 𝓤 H A (R .own r (u ∷ []))))
+      (ex 𝓤 (λ (ws : X). sep 𝓤 (sem 𝓤 H A (F ws)) (fact 𝓤 (φ r))))))) ∷ Γ) G
   returned t z κ q u R {X} F φ k =
-      use1 W (later (some (λ (r : R .Denot). (Live κ q ⊛ ‵ (R .own r (u ∷ []))) ⊛ some (λ (ws : X). ‵ (F ws) ⊛ raw (fact 𝓤 (φ r)))))) (id⊢ 𝓤 _) $ await t z $ pick t (λ r.
-      split t $ move t (1 ∷ []) $ pick t (λ ws. split t $ drop t $ heard t (φ r) (λ e. split t $ move t (1 ∷ []) $ peeks t R (Is R) (shows 𝓤 H A R) r (u ∷ []) (k r e))))
+      use1 W (later (some (λ (r : R .Denot). (Live κ q ⊛ ‵ (R .own r (u ∷ []))) ⊛ some (λ (ws : X). ‵ (F ws) ⊛ raw (fact 𝓤 (φ r)))))) (id⊢ 𝓤 _) $ await t z $
+      pick t (λ r.
+      split t $ move t (1 ∷ []) $ pick t (λ ws. split t $ drop t $ heard t (φ r)
+      (λ e. split t $ move t (1 ∷ []) $ peeks t R (Is R) (shows 𝓤 H A R) r (u ∷ []) (k r e))))
 
 abbrev pub later-of : Body → Body
 later-of skip = skip

@@ -2,6 +2,7 @@
 -- Assumes nothing.
 use Prim.Native.Nat.{ℕ}
 use mathlib.Core.Path.{_≡_}
+use mathlib.Core.Bool.{false}
 use mathlib.Core.List.{List, [], _∷_}
 use Rattle.number.specs.Questions.{firstNo}
 use Rattle.rules.specs.Chart.{inDomain}
@@ -20,6 +21,12 @@ pub record Step (view : List ℕ) (said : ViewToken) (next : List ℕ) : Type 0 
   pub token : said ≡ stepAt 0 (admitted view)
   pub left : next ≡ afterStep (admitted view)
 
+-- the token of a refused nth_token: all its numbers 0, and ended no
+abbrev pub noToken : ViewToken
+noToken = record { ended = false; class = 0; length = 0 }
+
 -- nth_token: question 1, and what step number k says, counted from 0
 abbrev pub nthAnswer : ℕ → List ℕ → NthToken
-nthAnswer k m = record { refused = firstNo (inDomain m ∷ []); token = stepAt k (admitted m) }
+nthAnswer k m =
+    let no = firstNo (inDomain m ∷ []) in
+    record { refused = no; token = accepted no (stepAt k m) noToken }

@@ -91,9 +91,9 @@ pub fn next_token<'a>(view: TokenView<'a>) -> TokenStep<'a>
     }
 }
 
-// The step after k steps, each from the view that the step before left.
-fn token_after(measures: &[u32], k: usize) -> NthToken
-    ensures { λ r. ⌜ r ≡ nthAnswer k (now (measures .entry)) ⌝ }
+// What the step after k steps says, each from the view that the step before left.
+fn token_after(measures: &[u32], k: usize) -> ViewToken
+    ensures { λ r. ⌜ r ≡ stepAt k (admitted (now (measures .entry))) ⌝ }
 {
     let opened = stream_tokens(measures);
     let mut view = opened.view;
@@ -102,19 +102,37 @@ fn token_after(measures: &[u32], k: usize) -> NthToken
         view = next_token(view).next;
         i += 1;
     }
-    NthToken {
-        refused: opened.refused,
-        token: next_token(view).token,
+    next_token(view).token
+}
+
+// The number of steps to the step number k: a chart has no more tokens than measures, so after as many it takes no more.
+fn steps_to(measures: &[u32], k: usize) -> usize
+    ensures { λ r. ⌜ stepAt r (now (measures .entry)) ≡ stepAt k (now (measures .entry)) ⌝ }
+{
+    if k < measures.len() {
+        k
+    } else {
+        measures.len()
     }
 }
 
-// Step number k, counted from 0. A chart has no more tokens than measures, so after as many steps it takes no more.
+// Step number k, counted from 0: refused with 1 outside the domain, and then not ended.
 pub fn nth_token(measures: &[u32], k: usize) -> NthToken
     ensures { λ r. ⌜ r ≡ nthAnswer k (now (measures .entry)) ⌝ }
 {
-    if k < measures.len() {
-        token_after(measures, k)
-    } else {
-        token_after(measures, measures.len())
+    let refused = refusal(measures);
+    if refused != 0 {
+        return NthToken {
+            refused,
+            token: ViewToken {
+                ended: false,
+                class: 0,
+                length: 0,
+            },
+        };
+    }
+    NthToken {
+        refused,
+        token: token_after(measures, steps_to(measures, k)),
     }
 }

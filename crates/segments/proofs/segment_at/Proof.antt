@@ -24,8 +24,11 @@ abbrev μ-loop : tie.MeasureT-loop
 μ-loop m k none left₀ c₀ left c = length (segmentsFrom m (c .at))
 
 -- a turn's step
-step : (c : lts.After-known-told (first-cursor-reads.Asked, first-cursor-reads.Learnt, next-segment-reads.Asked, next-segment-reads.Learnt) reads.Pre reads.Post Inv-loop μ-loop)
-    → Stepped (c .before .before .before .before .before .before .before .before .args .measures .now) (c .before .before .before .before .loop .c .at) (c .before .segment .given .0 .0) (c .before .segment .given .0 .1 .0)
+step : (c : lts.After-known-told (first-cursor-reads.Asked, first-cursor-reads.Learnt, next-segment-reads.Asked, next-segment-reads.Learnt)
+    reads.Pre reads.Post Inv-loop μ-loop)
+    → let l = c .before .before .before .before in
+    let found = c .before .segment .given .0 in
+    Stepped (l .before .before .before .before .args .measures .now) (l .loop .c .at) (found .0) (found .1 .0)
 step c = stepped _ _ _ _ (sym (c .before .before .before .next-segment .ensures) ∙ c .before .segment .given .1)
 
 returns : tie.Need-returns Inv-loop μ-loop

@@ -1,4 +1,5 @@
--- `segments::stream_sequences` meets its contract: a walk of its MIR, by hand, with a loop. The borrow of the slice of structs is opened once, before the loop, and closed once, after it; a turn takes one element out of the row, stores to it and puts it back, and calls `next_turn`.
+-- `segments::stream_sequences` meets its contract: a walk of its MIR, by hand, with a loop. The borrow of the slice of structs is opened once, before
+-- the loop, and closed once, after it; a turn takes one element out of the row, stores to it and puts it back, and calls `next_turn`.
 -- All that the proof knows of `first_turn` and `next_turn` is that they meet their contracts. What the loop does in plain terms is in `Written.antt`.
 -- Assumes nothing.
 use mathlib.Core.Bool.{Bool}
@@ -21,8 +22,10 @@ use prog.Wp.{Heap, Out, Env, Calls, Loops, Wp, WpFn, Tables, atReturn, afterSeq,
 use ghost.Atoms.{Atoms, sem}
 use contract.Monad.{Fun, fact}
 use contract.Running.{givenOf, tables, tablesOf}
-use types.Kit.{Given, Item, ‵, raw, _⊛_, some, later, ⋆, Sq, runs, anyQ, atRet, _$_, _∵_, !, qed, by, move, keep, drop, use1, use2, split, join, pick, rewrite, fsplit, fjoin, suffices, frame, await, done}
-use types.Run.{look, init, store, store-raw, forget, stop, hop, fld, from, load, lit, of-opd, bin, and-then, no-more, assigns, land, land-last, first, blocks, stays, leaves-loop, loops, again, Below, exec, returns, enter, alloc1, alloc0, params1, pass1, pass0, free1, free0}
+use types.Kit.{Given, Item, ‵, raw, _⊛_, some, later, ⋆, Sq, runs, anyQ, atRet, _$_, _∵_, !, qed}
+use types.Kit.{by, move, keep, drop, use1, use2, split, join, pick, rewrite, fsplit, fjoin, suffices, frame, await, done}
+use types.Run.{look, init, store, store-raw, forget, stop, hop, fld, from, load, lit, of-opd, bin, and-then, no-more, assigns, land, land-last}
+use types.Run.{first, blocks, stays, leaves-loop, loops, again, Below, exec, returns, enter, alloc1, alloc0, params1, pass1, pass0, free1, free0}
 use types.Part.{whole, sub, look-in}
 use sound.WpLaws.{fmOf, WpFn-mono}
 use denote.RattleType.{owns}
@@ -100,7 +103,8 @@ module _ {M : Type 1} (𝓤 : URA M) (H : Heap 𝓤) (A : Atoms 𝓤) (mem : Mem
   abbrev Next : Contract 𝓤
   Next = tripleOf 𝓤 H A nxt.signature (nxt.spec 𝓤 H A mem run)
 
-module _ {M : Type 1} (𝓤 : URA M) (H : Heap 𝓤) (A : Atoms 𝓤) (W : Given 𝓤 H A) (mem : Memory → SProp 𝓤) (run : Routine → Fun 𝓤) (κ κ′ : Lft) (q q′ : Share) (x : RefT (List ℕ)) (b o : ℕ) (γ : GName) (old : List StreamSegment)
+module _ {M : Type 1} (𝓤 : URA M) (H : Heap 𝓤) (A : Atoms 𝓤) (W : Given 𝓤 H A) (mem : Memory → SProp 𝓤) (run : Routine → Fun 𝓤) (κ κ′ : Lft) (q q′ : Share)
+    (x : RefT (List ℕ)) (b o : ℕ) (γ : GName) (old : List StreamSegment)
     (room : Room S.the-row (length old)) where
   abbrev ms : List ℕ
   ms = x .now
@@ -154,15 +158,18 @@ module _ {M : Type 1} (𝓤 : URA M) (H : Heap 𝓤) (A : Atoms 𝓤) (W : Given
   goes-first : ent 𝓤 (sep 𝓤 (A .lft κ q) (sem 𝓤 H A Own)) (First 𝓤 H A mem run .pre to-first)
   goes-first =
       qed W (‵ (flft κ q) ∷ ‵ Own ∷ []) ∵ nothing ! $ move ! (1 ∷ 0 ∷ []) $ join ! $ move ! (1 ∷ []) $
-      nothing ! $ owned ! usize (Is usize) (uint-makes 𝓤 H A W w64) (length old) _ (refl, room .0) $ fjoin ! $ move ! (1 ∷ 0 ∷ []) $ fjoin ! $ move ! (1 ∷ 0 ∷ []) $ join ! $ frame ! $ done !
+      nothing ! $ owned ! usize (Is usize) (uint-makes 𝓤 H A W w64) (length old) _ (refl, room .0) $ fjoin ! $ move ! (1 ∷ 0 ∷ []) $ fjoin ! $
+      move ! (1 ∷ 0 ∷ []) $ join ! $ frame ! $ done !
 
-  goes-next : (t : Turn) → Is T.the-row t (turn-vals t) → t .place + 1 < 2 ^ 64 → ent 𝓤 (sep 𝓤 (A .lft κ q) (sem 𝓤 H A Own)) (Next 𝓤 H A mem run .pre (to-next t))
+  goes-next : (t : Turn) → Is T.the-row t (turn-vals t) → t .place + 1 < 2 ^ 64
+      → ent 𝓤 (sep 𝓤 (A .lft κ q) (sem 𝓤 H A Own)) (Next 𝓤 H A mem run .pre (to-next t))
   goes-next t is fits =
       qed W (‵ (flft κ q) ∷ ‵ Own ∷ []) ∵ says ! (record { fits = fits }) $ nothing ! $ move ! (1 ∷ 0 ∷ []) $ join ! $ frame ! $
       nothing ! $ owned ! T.the-row (Is T.the-row) (LL.makes T.the-type T′.the-plain 𝓤 H A) t _ is $ fjoin ! $ move ! (1 ∷ 0 ∷ []) $ fjoin ! $ done !
 
   -- of a callee's `ensured`, the clause alone: neither has a `&mut`, so what is said of last values is dropped
-  said-first : (r : Turn) → ent 𝓤 (ensured 𝓤 H A fst.ended (fst.clauses 𝓤 H A mem run) (κ, tt) (x, (length old, tt)) tt r) (fact 𝓤 (r ≡ initialTurn ms (length old)))
+  said-first : (r : Turn) → ent 𝓤 (ensured 𝓤 H A fst.ended (fst.clauses 𝓤 H A mem run) (κ, tt) (x, (length old, tt)) tt r)
+      (fact 𝓤 (r ≡ initialTurn ms (length old)))
   said-first r = exE 𝓤 _ (λ ws. snd∗ 𝓤 (sem 𝓤 H A (lasts fst.ended (κ, tt) (x, (length old, tt)) ws)) (fact 𝓤 (r ≡ initialTurn ms (length old))))
 
   said-next : (t r : Turn) → ent 𝓤 (ensured 𝓤 H A nxt.ended (nxt.clauses 𝓤 H A mem run) (κ, tt) (x, (t, tt)) tt r) (fact 𝓤 (r ≡ nextTurn ms t))
@@ -170,14 +177,19 @@ module _ {M : Type 1} (𝓤 : URA M) (H : Heap 𝓤) (A : Atoms 𝓤) (W : Given
 
   -- ---- the exit, with the list l in the slice and the answer r
   exits : (r : SegmentsAnswer) (l : List StreamSegment) → Is N.the-row r (LL.vals N.the-type N′.the-laws r) → Segmented ms old l r → length l ≡ length old
-      → ent 𝓤 (⋆ 𝓤 H A (‵ (fobs γ (codedHoleys S.the-row .code (heres S.the-row l))) ∷ ‵ (fbor κ′ (Held S.the-row (length l) b o γ)) ∷ ‵ (flft κ′ q′) ∷ ‵ (flft κ q) ∷ ‵ Own ∷ [])) (Post (LL.val N.the-type N′.the-laws r))
+      → ent 𝓤 (⋆ 𝓤 H A (‵ (fobs γ (codedHoleys S.the-row .code (heres S.the-row l))) ∷ ‵ (fbor κ′ (Held S.the-row (length l) b o γ)) ∷ ‵ (flft κ′ q′)
+      ∷ ‵ (flft κ q) ∷ ‵ Own ∷ [])) (Post (LL.val N.the-type N′.the-laws r))
   exits r l is e same =
-      qed W (‵ (fobs γ (codedHoleys S.the-row .code (heres S.the-row l))) ∷ ‵ (fbor κ′ (Held S.the-row (length l) b o γ)) ∷ ‵ (flft κ′ q′) ∷ ‵ (flft κ q) ∷ ‵ Own ∷ []) ∵
-      suffices ! _ (ends-at 𝓤 H A f.ended stayed (f.clauses 𝓤 H A mem run) W (((κ, (κ′, tt)), (q, (q′, tt)), tt, a, vals), tt) (LL.val N.the-type N′.the-laws r) r (tt, (l, tt)) (tt, (same, tt))) $ says ! e $
+      qed W (‵ (fobs γ (codedHoleys S.the-row .code (heres S.the-row l))) ∷ ‵ (fbor κ′ (Held S.the-row (length l) b o γ)) ∷ ‵ (flft κ′ q′) ∷ ‵ (flft κ q)
+      ∷ ‵ Own ∷ []) ∵
+      suffices ! _ (ends-at 𝓤 H A f.ended stayed (f.clauses 𝓤 H A mem run) W (((κ, (κ′, tt)), (q, (q′, tt)), tt, a, vals), tt)
+      (LL.val N.the-type N′.the-laws r) r (tt, (l, tt)) (tt, (same, tt))) $ says ! e $
       nothing ! $ move ! (3 ∷ 0 ∷ []) $ join ! $ move ! (3 ∷ 0 ∷ []) $ join ! $ frame ! $
       -- [obs; the borrow; what measures owns]
-      fjoin ! $ pureI ! (at-slice S.the-row (y l) (v ∷ [])) (tt, (tt, tt)) (ap (λ (m : ℕ). sliceVal (b, o) m ∷ []) (sym same), subst (Room S.the-row) (sym same) room) $ fjoin ! $
-      nothing ! $ move ! (1 ∷ 0 ∷ []) $ fjoin ! $ move ! (1 ∷ 0 ∷ []) $ fjoin ! $ frame ! $ owned ! N.the-row (Is N.the-row) (LL.makes N.the-type N′.the-plain 𝓤 H A) r _ is $ done !
+      fjoin ! $ pureI ! (at-slice S.the-row (y l) (v ∷ [])) (tt, (tt, tt))
+      (ap (λ (m : ℕ). sliceVal (b, o) m ∷ []) (sym same), subst (Room S.the-row) (sym same) room) $ fjoin ! $
+      nothing ! $ move ! (1 ∷ 0 ∷ []) $ fjoin ! $ move ! (1 ∷ 0 ∷ []) $ fjoin ! $ frame ! $
+      owned ! N.the-row (Is N.the-row) (LL.makes N.the-type N′.the-plain 𝓤 H A) r _ is $ done !
 
   -- ---- the loop
   module _ (𝓣 : Tables 𝓤 H) (known : Triple 𝓤 (𝓣 .C #segments·turns·next-turn) (Next 𝓤 H A mem run)) (l₀ l₁ l₂ l₃ l₄ l₅ l₆ l₇ : ℕ) where
@@ -199,9 +211,11 @@ module _ {M : Type 1} (𝓤 : URA M) (H : Heap 𝓤) (A : Atoms 𝓤) (W : Given
     -- the invariant: the row with what is written, the token and what measures owns, the open borrow, and the locals, of which local i is at 6 + 2 i
     abbrev I : At → List (Item 𝓤)
     I s = ‵ (row S.the-row fullShare (list s) b o) ∷ ‵ (flft κ q) ∷ ‵ Own
-        ∷ ‵ (fobor κ′ q′ (Held S.the-row (length old) b o γ)) ∷ ‵ (fobs γ (codedHoleys S.the-row .code (heres S.the-row old))) ∷ ‵ (fauth γ (codedHoleys S.the-row .code (heres S.the-row old)))
+        ∷ ‵ (fobor κ′ q′ (Held S.the-row (length old) b o γ)) ∷ ‵ (fobs γ (codedHoleys S.the-row .code (heres S.the-row old)))
+        ∷ ‵ (fauth γ (codedHoleys S.the-row .code (heres S.the-row old)))
         ∷ ‵ (froom N′.mir l₀ 0) ∷ ‵ (fdies N′.mir l₀) ∷ ‵ (fat fullShare τ₁ l₁ 0 u) ∷ ‵ (fdies τ₁ l₁) ∷ ‵ (fat fullShare τ₂ l₂ 0 v) ∷ ‵ (fdies τ₂ l₂)
-        ∷ ‵ (fat fullShare T′.mir l₃ 0 (LL.val T.the-type T′.the-laws (s .turn))) ∷ ‵ (fdies T′.mir l₃) ∷ ‵ (fat fullShare (tyInt w64) l₄ 0 (vint w64 (length old))) ∷ ‵ (fdies (tyInt w64) l₄)
+        ∷ ‵ (fat fullShare T′.mir l₃ 0 (LL.val T.the-type T′.the-laws (s .turn))) ∷ ‵ (fdies T′.mir l₃)
+        ∷ ‵ (fat fullShare (tyInt w64) l₄ 0 (vint w64 (length old))) ∷ ‵ (fdies (tyInt w64) l₄)
         ∷ ‵ (froom tyBool l₅ 0) ∷ ‵ (fdies tyBool l₅) ∷ ‵ (froom (tyInt w64) l₆ 0) ∷ ‵ (fdies (tyInt w64) l₆) ∷ ‵ (froom tyPtr l₇ 0) ∷ ‵ (fdies tyPtr l₇) ∷ []
 
     abbrev ≺ : At → At → Type 0
@@ -218,26 +232,41 @@ module _ {M : Type 1} (𝓤 : URA M) (H : Heap 𝓤) (A : Atoms 𝓤) (W : Given
     more s r ss e g =
         assigns ! (of-opd ! (load ! (from ! (fld ! refl (stop !))) (look-in ! 12 (sub ! 0 refl (whole !))))) (from ! (stop !)) (init ! 16 refl (tt, tt)) $
         rewrite ! 16 (λ (z : Bool). ‵ (fat fullShare tyBool l₅ 0 (vbool z))) (g .0) refl $ stays ! (load ! (from ! (stop !)) (look ! 16 refl)) $
-        assigns ! (bin ! (load ! (from ! (fld ! refl (stop !))) (look-in ! 12 (sub ! 1 refl (whole !)))) (lit ! tt) (record { fits = bytes })) (from ! (stop !)) (init ! 18 refl (tt, record { fits = bytes })) $
-        assigns ! (bin ! (load ! (from ! (fld ! refl (stop !))) (look-in ! 10 (sub ! 0 refl (whole !)))) (load ! (from ! (stop !)) (look ! 18 refl)) tt) (from ! (stop !)) (init ! 20 refl (tt, tt)) $
+        assigns ! (bin ! (load ! (from ! (fld ! refl (stop !))) (look-in ! 12 (sub ! 1 refl (whole !)))) (lit ! tt) (record { fits = bytes })) (from ! (stop !))
+        (init ! 18 refl (tt, record { fits = bytes })) $
+        assigns ! (bin ! (load ! (from ! (fld ! refl (stop !))) (look-in ! 10 (sub ! 0 refl (whole !)))) (load ! (from ! (stop !)) (look ! 18 refl)) tt)
+        (from ! (stop !)) (init ! 20 refl (tt, tt)) $
         rewrite ! 20 (λ (p : ℕ). ‵ (fat fullShare tyPtr l₇ 0 (vptr b p))) (ap (λ (k : ℕ). k * 24 + o) (g .1) ∙ sym (place-is 24 o k)) refl $
         -- the element is taken out of the row, stored to, and put back: [the element; what it owns; the others; the token; …; local i at 8 + 2 i]
         elem-out ! S.the-row (Is S.the-row) (shows 𝓤 H A S.the-row) seg-vals (LL.tells S.the-type S′.the-laws) fullShare (list s) k r b o within (λ _.
-        assigns ! (of-opd ! (load ! (from ! (fld ! refl (stop !))) (look-in ! 14 (sub ! 2 refl (whole !))))) (from ! (hop ! (look ! 22 refl) (stop !))) (store-raw ! 0 refl (LL.lawful S.the-type S′.the-laws 𝓤 H A W .typed seg _ seg-is .0)) $
-        move ! (1 ∷ []) $ drop ! $ owned ! S.the-row (Is S.the-row) (LL.makes S.the-type S′.the-plain 𝓤 H A) seg _ seg-is $ move ! (1 ∷ 0 ∷ []) $ elem-put ! S.the-row fullShare (list s) k seg (seg-vals seg) b o within $
+        assigns ! (of-opd ! (load ! (from ! (fld ! refl (stop !))) (look-in ! 14 (sub ! 2 refl (whole !))))) (from ! (hop ! (look ! 22 refl) (stop !)))
+        (store-raw ! 0 refl (LL.lawful S.the-type S′.the-laws 𝓤 H A W .typed seg _ seg-is .0)) $
+        move ! (1 ∷ []) $ drop ! $ owned ! S.the-row (Is S.the-row) (LL.makes S.the-type S′.the-plain 𝓤 H A) seg _ seg-is $ move ! (1 ∷ 0 ∷ []) $
+        elem-put ! S.the-row fullShare (list s) k seg (seg-vals seg) b o within $
         rewrite ! 0 (λ (l : List StreamSegment). ‵ (row S.the-row fullShare l b o)) (filled-more (s .written) old seg less) refl $
         -- `next_turn`: [what it asks; what measures owns; the row; the open borrow; …; local i at 6 + 2 i]
         move ! (2 ∷ []) $ use1 W (‵ Own ⊛ ‵ Own) (shr-slice-copy 𝓤 H A W (named 0) κ u32 .twice x (u ∷ [])) $ split ! $
         move ! (3 ∷ 0 ∷ []) $ use2 W (raw (Next 𝓤 H A mem run .pre (to-next (s .turn)))) (goes-next (s .turn) (s .is) place-fits) $
-        calls-at-last ! (fmOf 𝓤 H (W .laws) 𝓣) (Next 𝓤 H A mem run) known (to-next (s .turn)) (and-then ! (load ! (from ! (stop !)) (look ! 8 refl)) (and-then ! (load ! (from ! (stop !)) (look ! 12 refl)) (no-more !))) (λ w.
-        use1 W (later (some (λ (t : Turn). ((‵ (flft κ q) ⊛ ‵ ftrue) ⊛ ‵ (T.the-row .own t (w ∷ []))) ⊛ raw (ensured 𝓤 H A nxt.ended (nxt.clauses 𝓤 H A mem run) (κ, tt) (x, (s .turn, tt)) tt t)))) (id⊢ 𝓤 _) $ await ! tt $ pick ! (λ t.
-        split ! $ move ! (1 ∷ []) $ use1 W (raw (fact 𝓤 (t ≡ nextTurn ms (s .turn)))) (said-next (s .turn) t) $ heard ! (t ≡ nextTurn ms (s .turn)) (λ e′. split ! $ move ! (1 ∷ []) $
+        calls-at-last ! (fmOf 𝓤 H (W .laws) 𝓣) (Next 𝓤 H A mem run) known (to-next (s .turn))
+        (and-then ! (load ! (from ! (stop !)) (look ! 8 refl)) (and-then ! (load ! (from ! (stop !)) (look ! 12 refl)) (no-more !))) (λ w.
+        use1 W (later (some (λ (t : Turn). ((‵ (flft κ q) ⊛ ‵ ftrue) ⊛ ‵ (T.the-row .own t (w ∷ []))) ⊛ raw
+        (ensured 𝓤 H A nxt.ended (nxt.clauses 𝓤 H A mem run) (κ, tt) (x, (s .turn, tt)) tt t)))) (id⊢ 𝓤 _) $ await ! tt $ pick ! (λ t.
+        split ! $ move ! (1 ∷ []) $ use1 W (raw (fact 𝓤 (t ≡ nextTurn ms (s .turn)))) (said-next (s .turn) t) $
+        heard ! (t ≡ nextTurn ms (s .turn)) (λ e′. split ! $ move ! (1 ∷ []) $
         -- [the result; the token; what measures owns; the row; …; local i at 7 + 2 i]
         peeks ! T.the-row (Is T.the-row) (shows 𝓤 H A T.the-row) t (w ∷ []) (λ is.
         land-last ! (from ! (stop !)) (store ! 13 refl (LL.lawful T.the-type T′.the-laws 𝓤 H A W .typed t _ is .0)) $
         rewrite ! 13 (λ (z : Val). ‵ (fat fullShare T′.mir l₃ 0 z)) (ap only (LL.tells T.the-type T′.the-laws t _ is)) refl $
         forget ! 17 refl $ forget ! 19 refl $ forget ! 21 refl $ drop ! $ split ! $ move ! (1 ∷ []) $ drop ! $ move ! (2 ∷ []) $
-        again ! ≺ I s (record { written = s .written ++ (seg ∷ []); left = ss; turn = t; whole = whole′; is = subst (Is T.the-row t) (LL.tells T.the-type T′.the-laws t _ is) is; goes = goes′ t e′ }) (omega (arith, ap length e)))))))
+        again ! ≺ I s (record {
+          written = s .written ++ (seg ∷ []);
+          left = ss;
+          turn = t;
+          whole = whole′;
+          is = subst (Is T.the-row t)
+              (LL.tells T.the-type T′.the-laws t _ is) is;
+          goes = goes′ t e′;
+        }) (omega (arith, ap length e)))))))
       where
         k : ℕ
         k = length (s .written)
@@ -267,20 +296,29 @@ module _ {M : Type 1} (𝓤 : URA M) (H : Heap 𝓤) (A : Atoms 𝓤) (W : Given
         whole′ = append-assoc (s .written) (s .turn .segment ∷ []) ss ∙ ap (λ (z : StreamSegment). s .written ++ (z ∷ ss)) (g .2) ∙ all-is
 
         goes′ : (t : Turn) → t ≡ nextTurn ms (s .turn) → Left ms answer (length (s .written ++ (s .turn .segment ∷ []))) ss t
-        goes′ t e′ = subst (λ (n : ℕ). Left ms answer n ss t) (sym (length-append (s .written) (s .turn .segment ∷ []))) (subst (λ (z : Turn). Left ms answer (length (s .written) + 1) ss z) (sym e′) (g .3))
+        goes′ t e′ = subst (λ (n : ℕ). Left ms answer n ss t) (sym (length-append (s .written) (s .turn .segment ∷ [])))
+            (subst (λ (z : Turn). Left ms answer (length (s .written) + 1) ss z) (sym e′) (g .3))
 
     -- the turn that leaves the loop, and the rest of the body: the borrow is closed, with all that is to be written in it
-    ends : (s : At) → s .left ≡ [] → Left ms answer (length (s .written)) [] (s .turn) → Sq W (I s) (runs C Λ En body.turn-1 (anyQ (afterTurn 𝓤 H (Below 𝓤 H A ≺ I s) Leave)))
+    ends : (s : At) → s .left ≡ [] → Left ms answer (length (s .written)) [] (s .turn)
+        → Sq W (I s) (runs C Λ En body.turn-1 (anyQ (afterTurn 𝓤 H (Below 𝓤 H A ≺ I s) Leave)))
     unfolding afterTurn
     ends s e g =
         assigns ! (of-opd ! (load ! (from ! (fld ! refl (stop !))) (look-in ! 12 (sub ! 0 refl (whole !))))) (from ! (stop !)) (init ! 16 refl (tt, tt)) $
-        rewrite ! 16 (λ (z : Bool). ‵ (fat fullShare tyBool l₅ 0 (vbool z))) (g .0) refl $ leaves-loop ! (load ! (from ! (stop !)) (look ! 16 refl)) $ exec ! C Λ En body.t-4 (atRet En Post) $
-        assigns ! (of-opd ! (load ! (from ! (fld ! refl (stop !))) (look-in ! 12 (sub ! 4 refl (whole !))))) (from ! (stop !)) (init ! 6 refl (LL.lawful N.the-type N′.the-laws 𝓤 H A W .typed (s .turn .answer) _ answer-is .0)) $
+        rewrite ! 16 (λ (z : Bool). ‵ (fat fullShare tyBool l₅ 0 (vbool z))) (g .0) refl $ leaves-loop ! (load ! (from ! (stop !)) (look ! 16 refl)) $
+        exec ! C Λ En body.t-4 (atRet En Post) $
+        assigns ! (of-opd ! (load ! (from ! (fld ! refl (stop !))) (look-in ! 12 (sub ! 4 refl (whole !))))) (from ! (stop !))
+        (init ! 6 refl (LL.lawful N.the-type N′.the-laws 𝓤 H A W .typed (s .turn .answer) _ answer-is .0)) $
         move ! (0 ∷ 3 ∷ 4 ∷ 5 ∷ []) $ closes-slice ! tt S.the-row old (list s) same b o $
         -- [obs; the borrow; its token; the other token; what measures owns; local i at 5 + 2 i]
         returns ! (look ! 5 refl) $ forget ! 5 refl $ forget ! 7 refl $ forget ! 9 refl $ forget ! 11 refl $ forget ! 13 refl $ forget ! 15 refl $
-        move ! (5 ∷ 6 ∷ 7 ∷ 8 ∷ 9 ∷ 10 ∷ 11 ∷ 12 ∷ 13 ∷ 14 ∷ 15 ∷ 16 ∷ 17 ∷ 18 ∷ 19 ∷ 20 ∷ []) $ free1 ! $ free1 ! $ free1 ! $ free1 ! $ free1 ! $ free1 ! $ free1 ! $ free1 ! $ free0 ! $
-        by ! (exits (s .turn .answer) (list s) answer-is (record { answer = g .1; records = ap (λ (l : List StreamSegment). filled old l) all-is ∙ filled-due ms old }) same)
+        move ! (5 ∷ 6 ∷ 7 ∷ 8 ∷ 9 ∷ 10 ∷ 11 ∷ 12 ∷ 13 ∷ 14 ∷ 15 ∷ 16 ∷ 17 ∷ 18 ∷ 19 ∷ 20 ∷ []) $ free1 ! $ free1 ! $ free1 ! $ free1 ! $ free1 ! $ free1 ! $
+        free1 ! $ free1 ! $ free0 ! $
+        by ! (exits (s .turn .answer) (list s) answer-is (record {
+          answer = g .1;
+          records = ap (λ (l : List StreamSegment). filled old l) all-is
+              ∙ filled-due ms old;
+        }) same)
       where
         all-is : s .written ≡ all
         all-is = sym (append-nil (s .written)) ∙ ap (λ (l : List StreamSegment). s .written ++ l) (sym e) ∙ s .whole
@@ -300,36 +338,57 @@ module _ {M : Type 1} (𝓤 : URA M) (H : Heap 𝓤) (A : Atoms 𝓤) (W : Given
     looped s = first ! $ blocks ! $ loops ! 𝓣 ≺ (InvImage·wf (λ (s : At). length (s .left)) (Nat·lt-wfRel .wf)) I (λ s. turn-at s (s .left) refl) s
 
   -- ---- the MIR up to the loop
-  walk : (𝓣 : Tables 𝓤 H) → Triple 𝓤 (𝓣 .C #segments·turns·first-turn) (First 𝓤 H A mem run) → Triple 𝓤 (𝓣 .C #segments·turns·next-turn) (Next 𝓤 H A mem run) → Room u32 (length ms)
+  walk : (𝓣 : Tables 𝓤 H) → Triple 𝓤 (𝓣 .C #segments·turns·first-turn) (First 𝓤 H A mem run) → Triple 𝓤 (𝓣 .C #segments·turns·next-turn) (Next 𝓤 H A mem run)
+      → Room u32 (length ms)
       → ent 𝓤 (onEntry 𝓤 H A f.signature (κ, (κ′, tt)) (q, (q′, tt)) a vals) (WpFn 𝓤 H (𝓣 .C) (𝓣 .Λ) code.function (u ∷ v ∷ []) Post)
   walk 𝓣 known-first known room₁ =
-      qed W ((‵ (flft κ q) ⊛ ‵ (flft κ′ q′) ⊛ ‵ ftrue) ∷ ‵ (owns (ShrSlice (named 0) κ u32 ∷ MutSlice (named 1) κ′ S.the-row ∷ []) a vals) ∷ []) ∵ enter ! (𝓣 .C) (𝓣 .Λ) code.function (u ∷ v ∷ []) _ $
+      qed W ((‵ (flft κ q) ⊛ ‵ (flft κ′ q′) ⊛ ‵ ftrue) ∷ ‵ (owns (ShrSlice (named 0) κ u32 ∷ MutSlice (named 1) κ′ S.the-row ∷ []) a vals) ∷ []) ∵ enter !
+      (𝓣 .C) (𝓣 .Λ) code.function (u ∷ v ∷ []) _ $
       alloc1 ! (λ l₀. alloc1 ! (λ l₁. alloc1 ! (λ l₂. alloc1 ! (λ l₃. alloc1 ! (λ l₄. alloc1 ! (λ l₅. alloc1 ! (λ l₆. alloc1 ! (λ l₇. alloc0 ! $ params1 ! $
       pass1 ! (init ! 12 refl (tt, (tt, (record { fits = room₁ .0 }, tt)))) $ pass1 ! (init ! 10 refl (tt, (tt, (record { fits = room .0 }, tt)))) $ pass0 ! $
       -- [_7; …; _6; …; _5; …; _4; …; _3; …; _2; …; _1; …; _0; …; the tokens; what measures and out own]
-      assigns ! (of-opd ! (load ! (from ! (fld ! refl (stop !))) (look-in ! 10 (sub ! 1 refl (whole !))))) (from ! (stop !)) (init ! 6 refl (tt, record { fits = room .0 })) $
+      assigns ! (of-opd ! (load ! (from ! (fld ! refl (stop !))) (look-in ! 10 (sub ! 1 refl (whole !))))) (from ! (stop !))
+      (init ! 6 refl (tt, record { fits = room .0 })) $
       move ! (17 ∷ []) $ fsplit ! $ use1 W (‵ Own ⊛ ‵ Own) (shr-slice-copy 𝓤 H A W (named 0) κ u32 .twice x (u ∷ [])) $ split ! $ move ! (19 ∷ []) $ split ! $
       -- `first_turn`: [what it asks; the other token; what measures owns; what out owns; _7; …]
       move ! (0 ∷ 2 ∷ []) $ use2 W (raw (First 𝓤 H A mem run .pre to-first)) goes-first $
-      calls-at ! (fmOf 𝓤 H (W .laws) 𝓣) (First 𝓤 H A mem run) known-first to-first (and-then ! (load ! (from ! (stop !)) (look ! 16 refl)) (and-then ! (load ! (from ! (stop !)) (look ! 10 refl)) (no-more !))) (λ w.
-      use1 W (later (some (λ (t : Turn). ((‵ (flft κ q) ⊛ ‵ ftrue) ⊛ ‵ (T.the-row .own t (w ∷ []))) ⊛ raw (ensured 𝓤 H A fst.ended (fst.clauses 𝓤 H A mem run) (κ, tt) (x, (length old, tt)) tt t)))) (id⊢ 𝓤 _) $ await ! tt $ pick ! (λ t.
-      split ! $ move ! (1 ∷ []) $ use1 W (raw (fact 𝓤 (t ≡ initialTurn ms (length old)))) (said-first t) $ heard ! (t ≡ initialTurn ms (length old)) (λ e. split ! $ move ! (1 ∷ []) $
+      calls-at ! (fmOf 𝓤 H (W .laws) 𝓣) (First 𝓤 H A mem run) known-first to-first
+      (and-then ! (load ! (from ! (stop !)) (look ! 16 refl)) (and-then ! (load ! (from ! (stop !)) (look ! 10 refl)) (no-more !))) (λ w.
+      use1 W (later (some (λ (t : Turn). ((‵ (flft κ q) ⊛ ‵ ftrue) ⊛ ‵ (T.the-row .own t (w ∷ []))) ⊛ raw
+      (ensured 𝓤 H A fst.ended (fst.clauses 𝓤 H A mem run) (κ, tt) (x, (length old, tt)) tt t)))) (id⊢ 𝓤 _) $ await ! tt $ pick ! (λ t.
+      split ! $ move ! (1 ∷ []) $ use1 W (raw (fact 𝓤 (t ≡ initialTurn ms (length old)))) (said-first t) $
+      heard ! (t ≡ initialTurn ms (length old)) (λ e. split ! $ move ! (1 ∷ []) $
       peeks ! T.the-row (Is T.the-row) (shows 𝓤 H A T.the-row) t (w ∷ []) (λ is.
       land ! (from ! (stop !)) (init ! 13 refl (LL.lawful T.the-type T′.the-laws 𝓤 H A W .typed t _ is .0)) $
       rewrite ! 13 (λ (z : Val). ‵ (fat fullShare T′.mir l₃ 0 z)) (ap only (LL.tells T.the-type T′.the-laws t _ is)) refl $
       -- the borrow is opened: [the row; the open borrow; obs; auth; true; the token; what measures owns; _7; …]
-      drop ! $ split ! $ move ! (1 ∷ []) $ drop ! $ move ! (1 ∷ []) $ split ! $ move ! (1 ∷ []) $ drop ! $ move ! (3 ∷ []) $ fsplit ! $ fsplit ! $ drop ! $ fsplit ! $ move ! (0 ∷ 1 ∷ 3 ∷ []) $ opens-slice ! tt S.the-row old b o $
+      drop ! $ split ! $ move ! (1 ∷ []) $ drop ! $ move ! (1 ∷ []) $ split ! $ move ! (1 ∷ []) $ drop ! $ move ! (3 ∷ []) $ fsplit ! $ fsplit ! $ drop ! $
+      fsplit ! $ move ! (0 ∷ 1 ∷ 3 ∷ []) $ opens-slice ! tt S.the-row old b o $
       keep ! (0 ∷ 5 ∷ 6 ∷ 1 ∷ 2 ∷ 3 ∷ 21 ∷ 22 ∷ 19 ∷ 20 ∷ 17 ∷ 18 ∷ 15 ∷ 16 ∷ 13 ∷ 14 ∷ 11 ∷ 12 ∷ 9 ∷ 10 ∷ 7 ∷ 8 ∷ []) $ looped 𝓣 known l₀ l₁ l₂ l₃ l₄ l₅ l₆ l₇
-      (record { written = []; left = all; turn = t; whole = refl; is = subst (Is T.the-row t) (LL.tells T.the-type T′.the-laws t _ is) is; goes = subst (λ (z : Turn). Left ms answer 0 all z) (sym e) (first-left ms old) })))))))))))))
+      (record {
+        written = [];
+        left = all;
+        turn = t;
+        whole = refl;
+        is = subst (Is T.the-row t) (LL.tells T.the-type T′.the-laws t _ is) is;
+        goes = subst
+            (λ (z : Turn). Left ms answer 0 all z) (sym e) (first-left ms old);
+      })))))))))))))
 
-module _ {M : Type 1} (𝓤 : URA M) (H : Heap 𝓤) (A : Atoms 𝓤) (W : Given 𝓤 H A) (mem : Memory → SProp 𝓤) (run : Routine → Fun 𝓤) (𝓣 : Tables 𝓤 H) (known-first : Triple 𝓤 (𝓣 .C #segments·turns·first-turn) (First 𝓤 H A mem run)) (known-next : Triple 𝓤 (𝓣 .C #segments·turns·next-turn) (Next 𝓤 H A mem run)) where
+module _ {M : Type 1} (𝓤 : URA M) (H : Heap 𝓤) (A : Atoms 𝓤) (W : Given 𝓤 H A) (mem : Memory → SProp 𝓤) (run : Routine → Fun 𝓤) (𝓣 : Tables 𝓤 H)
+    (known-first : Triple 𝓤 (𝓣 .C #segments·turns·first-turn) (First 𝓤 H A mem run))
+    (known-next : Triple 𝓤 (𝓣 .C #segments·turns·next-turn) (Next 𝓤 H A mem run)) where
   walks : Walks 𝓤 H A f.ended stayed (WpFn 𝓤 H (𝓣 .C) (𝓣 .Λ) code.function) (f.clauses 𝓤 H A mem run)
   walks = walked 𝓤 H A f.ended stayed (f.clauses 𝓤 H A mem run) (WpFn 𝓤 H (𝓣 .C) (𝓣 .Λ) code.function)
       (λ κs. (slice-vals, (slice-vals, tt))) (λ κs. (shr-slice-tells (named 0) (κs .0) u32, (mut-slice-tells (named 1) (κs .1 .0) S.the-row, tt)))
-      (λ κs qs bounds a g are. via 𝓤 _ (fst∗ 𝓤 _ (emp 𝓤)) (walk 𝓤 H A W mem run (κs .0) (κs .1 .0) (qs .0) (qs .1 .0) (a .0) (a .1 .0 .ptr .0) (a .1 .0 .ptr .1) (a .1 .0 .name) (a .1 .0 .now) (are .1 .0 .0 .1) 𝓣 known-first known-next (are .0 .0 .1)))
+      (λ κs qs bounds a g are. via 𝓤 _ (fst∗ 𝓤 _ (emp 𝓤)) (walk 𝓤 H A W mem run (κs .0) (κs .1 .0) (qs .0) (qs .1 .0) (a .0) (a .1 .0 .ptr .0) (a .1 .0 .ptr .1)
+      (a .1 .0 .name) (a .1 .0 .now) (are .1 .0 .0 .1) 𝓣 known-first known-next (are .0 .0 .1)))
 
   meets : Meets 𝓤 H A f.signature (WpFn 𝓤 H (𝓣 .C) (𝓣 .Λ) code.function) (f.spec 𝓤 H A mem run)
-  meets = walk-meets 𝓤 H A f.ended stayed W (goes-none-slice 𝓤 H A W 2 (0 ∷ []) tt (plain (λ _. u32)) yes, (goes-slice 𝓤 H A W 2 1 tt (plain (λ _. S.the-row)), tt)) (f.clauses 𝓤 H A mem run)
+  meets = walk-meets 𝓤 H A f.ended stayed W (
+    goes-none-slice 𝓤 H A W 2 (0 ∷ []) tt (plain (λ _. u32)) yes,
+    (goes-slice 𝓤 H A W 2 1 tt (plain (λ _. S.the-row)), tt),
+  ) (f.clauses 𝓤 H A mem run)
       (WpFn 𝓤 H (𝓣 .C) (𝓣 .Λ) code.function) (WpFn-mono 𝓤 H (W .laws) 𝓣 code.function) walks
 
 pub stream-sequences-spec : {M : Type 1} → stated.statement M
@@ -338,5 +397,7 @@ stream-sequences-spec 𝓤 H 𝓜 𝓖 𝓡 =
     entered 𝓤 H (tripleOf 𝓤 H (𝓖 .A) f.signature (f.spec 𝓤 H (𝓖 .A) (𝓜 .mem) (𝓡 .run)))
     (tables 𝓤 H 𝓜 𝓡 code.env .C) (tables 𝓤 H 𝓜 𝓡 code.env .Λ) #segments·stream-sequences code.function (code.unfolded 𝓤 H 𝓜 𝓡)
     (meets 𝓤 H (𝓖 .A) (givenOf 𝓤 H 𝓜 𝓖) (𝓜 .mem) (𝓡 .run) (tablesOf 𝓤 H 𝓜 (tables 𝓤 H 𝓜 𝓡 code.env))
-    (cited 𝓤 H (First 𝓤 H (𝓖 .A) (𝓜 .mem) (𝓡 .run)) 𝓜 𝓡 code.env #segments·turns·first-turn fst-def.routine code.calls-segments·turns·first-turn (fst-thm.met 𝓤 H 𝓜 𝓖 𝓡))
-    (cited 𝓤 H (Next 𝓤 H (𝓖 .A) (𝓜 .mem) (𝓡 .run)) 𝓜 𝓡 code.env #segments·turns·next-turn nxt-def.routine code.calls-segments·turns·next-turn (nxt-thm.met 𝓤 H 𝓜 𝓖 𝓡)))
+    (cited 𝓤 H (First 𝓤 H (𝓖 .A) (𝓜 .mem) (𝓡 .run)) 𝓜 𝓡 code.env #segments·turns·first-turn fst-def.routine code.calls-segments·turns·first-turn
+    (fst-thm.met 𝓤 H 𝓜 𝓖 𝓡))
+    (cited 𝓤 H (Next 𝓤 H (𝓖 .A) (𝓜 .mem) (𝓡 .run)) 𝓜 𝓡 code.env #segments·turns·next-turn nxt-def.routine code.calls-segments·turns·next-turn
+    (nxt-thm.met 𝓤 H 𝓜 𝓖 𝓡)))

@@ -73,7 +73,8 @@ module _ {M : Type 1} (𝓤 : URA M) (H : Heap 𝓤) (A : Atoms 𝓤) (mem : Mem
   abbrev Admit : Contract 𝓤
   Admit = tripleOf 𝓤 H A admit.signature (admit.spec 𝓤 H A mem run)
 
-module _ {M : Type 1} (𝓤 : URA M) (H : Heap 𝓤) (A : Atoms 𝓤) (W : Given 𝓤 H A) (mem : Memory → SProp 𝓤) (run : Routine → Fun 𝓤) (κ : Lft) (q : Share) (s : RefT (List ℕ)) where
+module _ {M : Type 1} (𝓤 : URA M) (H : Heap 𝓤) (A : Atoms 𝓤) (W : Given 𝓤 H A) (mem : Memory → SProp 𝓤) (run : Routine → Fun 𝓤) (κ : Lft) (q : Share)
+    (s : RefT (List ℕ)) where
   abbrev α : NamedLft
   α = namedLft 1 0 tt (κ, tt)
 
@@ -94,36 +95,49 @@ module _ {M : Type 1} (𝓤 : URA M) (H : Heap 𝓤) (A : Atoms 𝓤) (W : Given
   abbrev Post : Val → SProp 𝓤
   Post = walkOf 𝓤 H A stream-tokens.ended stayed (stream-tokens.clauses 𝓤 H A mem run) .post passed
 
-  exits : (n : ℕ) (r : RefT (List ℕ)) → n ≡ firstNo (inDomain (now s) ∷ []) → now r ≡ admitted (now s) → n < 2 ^ 32 → ent 𝓤 (⋆ 𝓤 H A (‵ (Own κ r) ∷ Live κ q ∷ ‵ (Own κ s) ∷ [])) (Post (O′.lowered (made n r)))
+  exits : (n : ℕ) (r : RefT (List ℕ)) → n ≡ firstNo (inDomain (now s) ∷ []) → now r ≡ admitted (now s) → n < 2 ^ 32
+      → ent 𝓤 (⋆ 𝓤 H A (‵ (Own κ r) ∷ Live κ q ∷ ‵ (Own κ s) ∷ [])) (Post (O′.lowered (made n r)))
   exits n r e e′ fits =
       qed W (‵ (Own κ r) ∷ Live κ q ∷ ‵ (Own κ s) ∷ []) ∵
-      suffices ! _ (ends-at 𝓤 H A stream-tokens.ended stayed (stream-tokens.clauses 𝓤 H A mem run) W passed (O′.lowered (made n r)) (made n r) (tt, tt) (tt, tt)) $ says ! (record { number = e; left = e′ }) $
+      suffices ! _ (ends-at 𝓤 H A stream-tokens.ended stayed (stream-tokens.clauses 𝓤 H A mem run) W passed (O′.lowered (made n r)) (made n r) (tt, tt)
+      (tt, tt)) $ says ! (record { number = e; left = e′ }) $
       move ! (1 ∷ []) $ frame ! $ nothing ! $ move ! (2 ∷ 0 ∷ []) $ fjoin ! $ frame ! $
       -- [what r owns]: the inner struct is shut, and then the outer one
-      nothing ! $ move ! (1 ∷ 0 ∷ []) $ fjoin ! $ use1 W (‵ (View.the-row α .own (view r) (View′.lowered (view r) ∷ []))) (own-shut 𝓤 H A W (View.the-type α) (View′.the-laws α) (r, tt)) $
-      nothing ! $ move ! (1 ∷ 0 ∷ []) $ fjoin ! $ owned ! u32 (Is u32) (uint-makes 𝓤 H A W w32) n _ (refl, fits) $ fjoin ! $ by ! (own-shut 𝓤 H A W (O.the-type α) (O′.the-laws α) (n, (view r, tt)))
+      nothing ! $ move ! (1 ∷ 0 ∷ []) $ fjoin ! $ use1 W (‵ (View.the-row α .own (view r) (View′.lowered (view r) ∷ [])))
+      (own-shut 𝓤 H A W (View.the-type α) (View′.the-laws α) (r, tt)) $
+      nothing ! $ move ! (1 ∷ 0 ∷ []) $ fjoin ! $ owned ! u32 (Is u32) (uint-makes 𝓤 H A W w32) n _ (refl, fits) $ fjoin ! $
+      by ! (own-shut 𝓤 H A W (O.the-type α) (O′.the-laws α) (n, (view r, tt)))
 
-  module _ (C : Calls 𝓤 H) (Λ : Loops 𝓤 H) (fm : FmC 𝓤 H (W .laws) C) (known-refusal : Triple 𝓤 (C #token-view·refusal) (Refusal 𝓤 H A mem run)) (known-admit : Triple 𝓤 (C #token-view·admit) (Admit 𝓤 H A mem run)) where
-    walk : Is (ShrSlice (named 0) κ u32) s (v ∷ []) → ent 𝓤 (onEntry 𝓤 H A stream-tokens.signature (κ, tt) (q, tt) (s, tt) (v ∷ [], tt)) (WpFn 𝓤 H C Λ code.function (v ∷ []) Post)
+  module _ (C : Calls 𝓤 H) (Λ : Loops 𝓤 H) (fm : FmC 𝓤 H (W .laws) C) (known-refusal : Triple 𝓤 (C #token-view·refusal) (Refusal 𝓤 H A mem run))
+      (known-admit : Triple 𝓤 (C #token-view·admit) (Admit 𝓤 H A mem run)) where
+    walk : Is (ShrSlice (named 0) κ u32) s (v ∷ []) → ent 𝓤 (onEntry 𝓤 H A stream-tokens.signature (κ, tt) (q, tt) (s, tt) (v ∷ [], tt))
+        (WpFn 𝓤 H C Λ code.function (v ∷ []) Post)
     walk p =
         qed W (Live κ q ∷ ‵ (owns (ShrSlice (named 0) κ u32 ∷ []) (s, tt) (v ∷ [], tt)) ∷ []) ∵ enter ! C Λ code.function (v ∷ []) _ $
-        alloc1 ! (λ l₀. alloc1 ! (λ l₁. alloc1 ! (λ l₂. alloc1 ! (λ l₃. alloc1 ! (λ l₄. alloc0 ! $ params1 ! $ pass1 ! (init ! 6 refl (shr-slice-lawful 𝓤 H A W (named 0) κ u32 .typed s (v ∷ []) p .0)) $ pass0 ! $
+        alloc1 ! (λ l₀. alloc1 ! (λ l₁. alloc1 ! (λ l₂. alloc1 ! (λ l₃.
+        alloc1 ! (λ l₄. alloc0 ! $ params1 ! $ pass1 ! (init ! 6 refl (shr-slice-lawful 𝓤 H A W (named 0) κ u32 .typed s (v ∷ []) p .0)) $ pass0 ! $
         -- [room for _4; …; _3; …; _2; …; _1; …; room for _0; …; the lifetime's token; what the parameter owns]
-        move ! (11 ∷ []) $ fsplit ! $ move ! (1 ∷ []) $ drop ! $ move ! (11 ∷ 0 ∷ []) $ use2 W (raw (Refusal 𝓤 H A mem run .pre passed) ⊛ ‵ (Own κ s)) (lent-alone 𝓤 H A W κ q s) $ split ! $
+        move ! (11 ∷ []) $ fsplit ! $ move ! (1 ∷ []) $ drop ! $ move ! (11 ∷ 0 ∷ []) $
+        use2 W (raw (Refusal 𝓤 H A mem run .pre passed) ⊛ ‵ (Own κ s)) (lent-alone 𝓤 H A W κ q s) $ split ! $
         calls-at ! fm (Refusal 𝓤 H A mem run) known-refusal passed (and-then ! (load ! (from ! (stop !)) (look ! 8 refl)) (no-more !)) (λ u.
         returned ! tt κ q u u32 (lasts refusal.ended (κ, tt) (s, tt)) (λ n. n ≡ firstNo (inDomain (now s) ∷ [])) (λ n e is.
         -- [the result; the lifetime's token; what s owns; room for _4; …; _3; …; _2; …; _1; …; room for _0; …]
-        land ! (from ! (stop !)) (init ! 7 refl (uint-lawful 𝓤 H A W w32 .typed n _ is .0)) $ rewrite ! 7 (λ (w : Val). ‵ (fat fullShare (tyInt w32) l₂ 0 w)) (ap only (is .0)) refl $ drop ! $
+        land ! (from ! (stop !)) (init ! 7 refl (uint-lawful 𝓤 H A W w32 .typed n _ is .0)) $
+        rewrite ! 7 (λ (w : Val). ‵ (fat fullShare (tyInt w32) l₂ 0 w)) (ap only (is .0)) refl $ drop ! $
         use2 W (raw (Admit 𝓤 H A mem run .pre passed) ⊛ ‵ (Own κ s)) (lent-alone 𝓤 H A W κ q s) $ split ! $
         calls-at ! fm (Admit 𝓤 H A mem run) known-admit passed (and-then ! (load ! (from ! (stop !)) (look ! 8 refl)) (no-more !)) (λ w.
         returned ! tt κ q w (ShrSlice (named 0) κ u32) (lasts admit.ended (κ, tt) (s, tt)) (λ r. now r ≡ admitted (now s)) (λ r e′ is′.
         land ! (from ! (stop !)) (init ! 5 refl (shr-slice-lawful 𝓤 H A W erased κ u32 .typed r _ is′ .0)) $
-        rewrite ! 5 (λ (z : Val). ‵ (fat fullShare (sliceTy (tyRef erased imm (tyInt w32))) l₃ 0 z)) (ap only (is′ .0 .0)) refl $ rewrite ! 0 (λ (zs : List Val). ‵ (ShrSlice (named 0) κ u32 .own r zs)) (is′ .0 .0) refl $
+        rewrite ! 5 (λ (z : Val). ‵ (fat fullShare (sliceTy (tyRef erased imm (tyInt w32))) l₃ 0 z)) (ap only (is′ .0 .0)) refl $
+        rewrite ! 0 (λ (zs : List Val). ‵ (ShrSlice (named 0) κ u32 .own r zs)) (is′ .0 .0) refl $
         -- [what r owns; the lifetime's token; what s owns; room for _4; …; _3; …; _2; …; _1; …; room for _0; …]
-        assigns ! (agg ! (and-then ! (load ! (from ! (stop !)) (look ! 5 refl)) (no-more !))) (from ! (stop !)) (init ! 3 refl (tt, ((tt, (record { fits = is′ .0 .1 .0 }, tt)), tt))) $
-        assigns ! (agg ! (and-then ! (load ! (from ! (stop !)) (look ! 7 refl)) (and-then ! (load ! (from ! (stop !)) (look ! 3 refl)) (no-more !)))) (from ! (stop !)) (init ! 11 refl (tt, (record { fits = is .1 }, (((tt, (record { fits = is′ .0 .1 .0 }, tt)), tt), tt)))) $
+        assigns ! (agg ! (and-then ! (load ! (from ! (stop !)) (look ! 5 refl)) (no-more !))) (from ! (stop !))
+        (init ! 3 refl (tt, ((tt, (record { fits = is′ .0 .1 .0 }, tt)), tt))) $
+        assigns ! (agg ! (and-then ! (load ! (from ! (stop !)) (look ! 7 refl)) (and-then ! (load ! (from ! (stop !)) (look ! 3 refl)) (no-more !))))
+        (from ! (stop !)) (init ! 11 refl (tt, (record { fits = is .1 }, (((tt, (record { fits = is′ .0 .1 .0 }, tt)), tt), tt)))) $
         returns ! (look ! 11 refl) $ forget ! 3 refl $ forget ! 5 refl $ forget ! 7 refl $ forget ! 9 refl $ forget ! 11 refl $
-        move ! (11 ∷ 12 ∷ []) $ free1 ! $ move ! (9 ∷ 10 ∷ []) $ free1 ! $ move ! (7 ∷ 8 ∷ []) $ free1 ! $ move ! (5 ∷ 6 ∷ []) $ free1 ! $ move ! (3 ∷ 4 ∷ []) $ free1 ! $ free0 ! $ by ! (exits n r e e′ (is .1)))))))))))
+        move ! (11 ∷ 12 ∷ []) $ free1 ! $ move ! (9 ∷ 10 ∷ []) $ free1 ! $ move ! (7 ∷ 8 ∷ []) $ free1 ! $ move ! (5 ∷ 6 ∷ []) $ free1 ! $ move ! (3 ∷ 4 ∷ []) $
+        free1 ! $ free0 ! $ by ! (exits n r e e′ (is .1)))))))))))
 
 stream-tokens-meets : {M : Type 1} (𝓤 : URA M) (H : Heap 𝓤) (A : Atoms 𝓤) (W : Given 𝓤 H A) (mem : Memory → SProp 𝓤) (run : Routine → Fun 𝓤) (𝓣 : Tables 𝓤 H)
     → Triple 𝓤 (𝓣 .C #token-view·refusal) (Refusal 𝓤 H A mem run) → Triple 𝓤 (𝓣 .C #token-view·admit) (Admit 𝓤 H A mem run)
@@ -131,9 +145,11 @@ stream-tokens-meets : {M : Type 1} (𝓤 : URA M) (H : Heap 𝓤) (A : Atoms �
 stream-tokens-meets 𝓤 H A W mem run 𝓣 known-refusal known-admit =
     let runs = WpFn 𝓤 H (𝓣 .C) (𝓣 .Λ) code.function in
     let clauses = stream-tokens.clauses 𝓤 H A mem run in
-    walk-meets 𝓤 H A stream-tokens.ended stayed W (goes-none-slice 𝓤 H A W 1 (0 ∷ []) tt (plain (λ _. u32)) yes, tt) clauses runs (WpFn-mono 𝓤 H (W .laws) 𝓣 code.function)
+    walk-meets 𝓤 H A stream-tokens.ended stayed W (goes-none-slice 𝓤 H A W 1 (0 ∷ []) tt (plain (λ _. u32)) yes, tt) clauses runs
+    (WpFn-mono 𝓤 H (W .laws) 𝓣 code.function)
     (walked 𝓤 H A stream-tokens.ended stayed clauses runs (λ κs. (slice-vals, tt)) (λ κs. (shr-slice-tells (named 0) (κs .0) u32, tt))
-    (λ κs qs bounds a g are. via 𝓤 _ (fst∗ 𝓤 _ (emp 𝓤)) (walk 𝓤 H A W mem run (κs .0) (qs .0) (a .0) (𝓣 .C) (𝓣 .Λ) (fmOf 𝓤 H (W .laws) 𝓣) known-refusal known-admit (are .0))))
+    (λ κs qs bounds a g are. via 𝓤 _ (fst∗ 𝓤 _ (emp 𝓤)) (walk 𝓤 H A W mem run (κs .0) (qs .0) (a .0) (𝓣 .C) (𝓣 .Λ)
+    (fmOf 𝓤 H (W .laws) 𝓣) known-refusal known-admit (are .0))))
 
 pub stream-tokens-spec : {M : Type 1} → stated.statement M
 unfolding code.routine tablesOf
@@ -141,5 +157,6 @@ stream-tokens-spec 𝓤 H 𝓜 𝓖 𝓡 =
     entered 𝓤 H (tripleOf 𝓤 H (𝓖 .A) stream-tokens.signature (stream-tokens.spec 𝓤 H (𝓖 .A) (𝓜 .mem) (𝓡 .run)))
     (tables 𝓤 H 𝓜 𝓡 code.env .C) (tables 𝓤 H 𝓜 𝓡 code.env .Λ) #token-view·stream-tokens code.function (code.unfolded 𝓤 H 𝓜 𝓡)
     (stream-tokens-meets 𝓤 H (𝓖 .A) (givenOf 𝓤 H 𝓜 𝓖) (𝓜 .mem) (𝓡 .run) (tablesOf 𝓤 H 𝓜 (tables 𝓤 H 𝓜 𝓡 code.env))
-    (cited 𝓤 H (Refusal 𝓤 H (𝓖 .A) (𝓜 .mem) (𝓡 .run)) 𝓜 𝓡 code.env #token-view·refusal refusal-def.routine code.calls-token-view·refusal (refusal-thm.met 𝓤 H 𝓜 𝓖 𝓡))
+    (cited 𝓤 H (Refusal 𝓤 H (𝓖 .A) (𝓜 .mem) (𝓡 .run)) 𝓜 𝓡 code.env #token-view·refusal refusal-def.routine code.calls-token-view·refusal
+    (refusal-thm.met 𝓤 H 𝓜 𝓖 𝓡))
     (cited 𝓤 H (Admit 𝓤 H (𝓖 .A) (𝓜 .mem) (𝓡 .run)) 𝓜 𝓡 code.env #token-view·admit admit-def.routine code.calls-token-view·admit (admit-thm.met 𝓤 H 𝓜 𝓖 𝓡)))

@@ -10,16 +10,13 @@ use Rattle.replay_measures.proofs.answers.put_segments.Statement.{state
 use Rattle.replay_measures.proofs.answers.put_segments.Tie as tie
 
 abbrev Inv-loop : tie.InvT-loop
-Inv-loop out₀ at word m end₀ places k₀ t10 out end k = (end ≤ length out) × (length out ≡ length out₀)
+Inv-loop out₀ at word m end₀ k₀ out end k = (end ≤ length out) × (length out ≡ length out₀)
 
 abbrev μ-loop : tie.MeasureT-loop
-μ-loop out₀ at word m end₀ places k₀ t10 out end k = 64 - k
+μ-loop out₀ at word m end₀ k₀ out end k = length m - k
 
 put-bytes-requires : tie.Need-put-bytes-requires Inv-loop μ-loop
 put-bytes-requires c κs = search needs
-
-first-segments-requires : tie.Need-first-segments-requires Inv-loop μ-loop
-first-segments-requires c κs = search needs
 
 loop-holds : tie.Need-loop-holds Inv-loop μ-loop
 loop-holds c = search needs
@@ -27,32 +24,11 @@ loop-holds c = search needs
 segment-at-requires : tie.Need-segment-at-requires Inv-loop μ-loop
 segment-at-requires c κs = search needs
 
-mul-differ : tie.Need-mul-differ Inv-loop μ-loop
-mul-differ c = search needs
-
-array-copy-out-differ : tie.Need-array-copy-out-differ Inv-loop μ-loop
-array-copy-out-differ c = search needs
-
-differ-requires : tie.Need-differ-requires Inv-loop μ-loop
-differ-requires c κs = search needs
-
-slice-aggregate-put-bytes : tie.Need-slice-aggregate-put-bytes Inv-loop μ-loop
-slice-aggregate-put-bytes c = search needs
-
-put-bytes-requires-2 : tie.Need-put-bytes-requires-2 Inv-loop μ-loop
-put-bytes-requires-2 c κs = search needs
-
 same-length : tie.Need-same-length Inv-loop μ-loop
 same-length c = search needs
 
 returns : tie.Need-returns Inv-loop μ-loop
 returns c = counts _ _ (omega arith)
-
-same-length-2 : tie.Need-same-length-2 Inv-loop μ-loop
-same-length-2 c = search needs
-
-returns-2 : tie.Need-returns-2 Inv-loop μ-loop
-returns-2 c = counts _ _ (omega arith)
 
 put-segment-requires : tie.Need-put-segment-requires Inv-loop μ-loop
 put-segment-requires c κs = search needs
@@ -66,11 +42,11 @@ loop-less c = search needs
 loop-again : tie.Need-loop-again Inv-loop μ-loop
 loop-again c = search needs
 
-same-length-3 : tie.Need-same-length-3 Inv-loop μ-loop
-same-length-3 c = search needs
+same-length-2 : tie.Need-same-length-2 Inv-loop μ-loop
+same-length-2 c = search needs
 
-returns-3 : tie.Need-returns-3 Inv-loop μ-loop
-returns-3 c = counts _ _ (omega arith)
+returns-2 : tie.Need-returns-2 Inv-loop μ-loop
+returns-2 c = counts _ _ (omega arith)
 
 pub put-segments-spec : {M : Type 1} → statement M
 put-segments-spec =
@@ -79,21 +55,13 @@ put-segments-spec =
     Inv-loop
     μ-loop
     put-bytes-requires
-    first-segments-requires
     loop-holds
     segment-at-requires
-    mul-differ
-    array-copy-out-differ
-    differ-requires
-    slice-aggregate-put-bytes
-    put-bytes-requires-2
     same-length
     returns
-    same-length-2
-    returns-2
     put-segment-requires
     add-k
     loop-less
     loop-again
-    same-length-3
-    returns-3)
+    same-length-2
+    returns-2)

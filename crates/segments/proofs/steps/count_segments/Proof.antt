@@ -23,8 +23,11 @@ abbrev μ-loop : tie.MeasureT-loop
 μ-loop m n₀ c₀ n c = length (segmentsFrom m (c .at))
 
 -- a turn's step
-step : (c : lts.After-known-told (first-cursor-reads.Asked, first-cursor-reads.Learnt, next-segment-reads.Asked, next-segment-reads.Learnt) reads.Pre reads.Post Inv-loop μ-loop)
-    → Stepped (c .before .before .before .before .before .before .before .args .m .now) (c .before .before .before .before .loop .c .at) (c .before .next .given .0 .0) (c .before .next .given .0 .1 .0)
+step : (c : lts.After-known-told (first-cursor-reads.Asked, first-cursor-reads.Learnt, next-segment-reads.Asked, next-segment-reads.Learnt)
+    reads.Pre reads.Post Inv-loop μ-loop)
+    → let l = c .before .before .before .before in
+    let found = c .before .next .given .0 in
+    Stepped (l .before .before .before .args .m .now) (l .loop .c .at) (found .0) (found .1 .0)
 step c = stepped _ _ _ _ (sym (c .before .before .before .next-segment .ensures) ∙ c .before .next .given .1)
 
 first-cursor-requires : tie.Need-first-cursor-requires Inv-loop μ-loop

@@ -29,7 +29,9 @@ turn-of-requires-2 c κs = search needs
 returns-2 : tie.Need-returns-2
 returns-2 c =
     let no = c .before .before .before .before .first-no in
-    c .turn-of2 .ensures ∙ rw (c .before .next-segment .ensures, c .before .before .first-cursor .ensures) (turn-accepted _ _ (no .result) (no .ensures) (c .before .before .before .if1 .left))
+    c .turn-of2 .ensures
+    ∙ rw (c .before .next-segment .ensures, c .before .before .first-cursor .ensures)
+    (turn-accepted _ _ (no .result) (no .ensures) (c .before .before .before .if1 .left))
 
 pub first-turn-spec : {M : Type 1} → statement M
 first-turn-spec =
