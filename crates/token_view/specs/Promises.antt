@@ -4,7 +4,7 @@ use Prim.Native.Nat.{ℕ}
 use mathlib.Core.Path.{_≡_}
 use mathlib.Core.Bool.{false}
 use mathlib.Core.List.{List, [], _∷_}
-use Rattle.number.specs.Questions.{firstNo}
+use Rattle.number.specs.Questions.{firstNo, accepted}
 use Rattle.rules.specs.Chart.{inDomain}
 use Rattle.rules.specs.Calls.{stepAt, afterStep, admitted}
 use Rattle.rules.specs.declared.ViewToken.{ViewToken}
