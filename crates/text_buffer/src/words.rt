@@ -86,7 +86,14 @@ pub fn words() -> [u32; 92]
     set_row(&mut table, 15, 0, space);
     set_row(&mut table, 20, 0, star);
     set_signs(&mut table, 25, 32, dash, slash, bar);
-    set_signs(&mut table, 59, 31, word_before(b'-', 0), word_before(b'/', 0), word_before(b' ', bar));
+    set_signs(
+        &mut table,
+        59,
+        31,
+        word_before(b'-', 0),
+        word_before(b'/', 0),
+        word_before(b' ', bar),
+    );
     table
 }
 
