@@ -24,7 +24,8 @@ module _ {old : List ℕ} {k : ℕ} where
         next = w .next;
         front =
             ap (take r) (w .bytes ∙ sets-eq xs old k (f .fits))
-            ∙ take-at (take k old ++ xs) (drop (k + length xs) old) r (omega (arith, length-append (take k old) xs, length-take-le k old (omega (arith, f .fits)), w .next));
+            ∙ take-at (take k old ++ xs) (drop (k + length xs) old) r
+            (omega (arith, length-append (take k old) xs, length-take-le k old (omega (arith, f .fits)), w .next));
         long = ap length (w .bytes) ∙ length-sets old k xs;
       }
 
@@ -84,7 +85,15 @@ module _ {old : List ℕ} {k : ℕ} (n : ℕ) (h : 10 ≤ n) (f : Room old k (di
     pub last-digit : Grown old (set mid r (48 + n % 10)) k (digits n) (r + 1)
     last-digit = rw (digits-more n h) (grown (digits (n / 10)) ((48 + n % 10) ∷ []) g (stored (48 + n % 10) last-place))
 
--- a number of two digits
-pub two-digits : {old : List ℕ} {k : ℕ} (n : ℕ) → 10 ≤ n → n < 100 → k + 2 ≤ length old
-    → Grown old (set (set old k (48 + n / 10)) (k + 1) (48 + n % 10)) k (digits n) (k + 2)
-two-digits n g h l = rw (digits-more n g, digits-one (n / 10) (omega arith)) (stored-two (48 + n / 10) (48 + n % 10) l)
+-- a number of two digits, and one of a single digit that is stored over a first
+module _ {old : List ℕ} {k : ℕ} (n : ℕ) (l : k + 2 ≤ length old) where
+  pub two-digits : 10 ≤ n → n < 100 → Grown old (set (set old k (48 + n / 10)) (k + 1) (48 + n % 10)) k (digits n) (k + 1 + 1)
+  two-digits g h =
+      let e : k + 1 + 1 ≡ k + 2 = omega arith in
+      rw (e, digits-more n g, digits-one (n / 10) (omega arith)) (stored-two (48 + n / 10) (48 + n % 10) l)
+
+  pub one-digit : n < 10 → Grown old (set (set old k (48 + n / 10)) k (48 + n % 10)) k (digits n) (k + 1)
+  one-digit h =
+      let e : n % 10 ≡ n = omega arith in
+      let none : Grown old (set old k (48 + n / 10)) k [] k = dropped ((48 + n / 10) ∷ []) (omega arith) (stored (48 + n / 10) (omega arith)) in
+      rw (e, digits-one n h) (grown [] ((48 + n) ∷ []) none (stored (48 + n) (omega (arith, none .long))))

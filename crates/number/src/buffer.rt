@@ -19,19 +19,17 @@ fn add_long(buf: &mut [u8], k: usize, n: u64) -> usize
     last + 1
 }
 
-// `n` in base ten behind the first k bytes; the next place is answered. Numbers below 100 are the most frequent ones.
+// `n` in base ten behind the first k bytes; the next place is answered. Below 100, as most numbers of a text are, no branch depends on it: a first
+// digit is stored anyway, and the last one over it where that is the only one.
 pub fn add_u64(buf: &mut [u8], k: usize, n: u64) -> usize
     requires { ⌜ k + 20 ≤ length (now buf) ⌝ }
     ensures { λ r. ⌜ Grown (now (buf .entry)) (now (buf .exit)) k (digits n) r ⌝ }
 {
-    if n < 10 {
-        buf[k] = (48 + n) as u8;
-        return k + 1;
+    if n >= 100 {
+        return add_long(buf, k, n);
     }
-    if n < 100 {
-        buf[k] = (48 + n / 10) as u8;
-        buf[k + 1] = (48 + n % 10) as u8;
-        return k + 2;
-    }
-    add_long(buf, k, n)
+    buf[k] = (48 + n / 10) as u8;
+    let last = if n < 10 { k } else { k + 1 };
+    buf[last] = (48 + n % 10) as u8;
+    last + 1
 }

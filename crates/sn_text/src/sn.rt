@@ -69,7 +69,8 @@ pub struct RunPlace {
 // Found by a branch, which goes the same way again and again in most charts; the run itself is read where it is needed.
 pub fn run_place(cs: &[u8], ns: &[u32], i: usize) -> RunPlace
     requires { ⌜ TokenAt (now cs) (now ns) i ⌝ }
-    ensures { λ r. ⌜ RunAt (now (cs .entry)) (now (ns .entry)) i (r .gap) (getD (now (cs .entry)) (r .place) 0) (getD (now (ns .entry)) (r .place) 0) (r .place + 1) ⌝ }
+    ensures { λ r. ⌜ RunAt (now (cs .entry)) (now (ns .entry)) i (r .gap) (getD (now (cs .entry)) (r .place) 0) (getD (now (ns .entry)) (r .place) 0)
+        (r .place + 1) ⌝ }
 {
     if cs[i] == 0 {
         return RunPlace {
@@ -134,7 +135,8 @@ fn joined_part(
     from: Left,
 ) -> Done
     requires { ⌜ (1 ≤ limit) × SnAsked limit run (now cs) (now ns) (now words) (now buf) (now out) from ⌝ }
-    ensures { λ r. ⌜ SnWritten limit run (now (cs .entry)) (now (ns .entry)) (now (buf .entry)) (now (out .entry)) from (now (buf .exit)) (now (out .exit)) r ⌝ }
+    ensures { λ r. ⌜ SnWritten limit run (now (cs .entry)) (now (ns .entry)) (now (buf .entry)) (now (out .entry)) from (now (buf .exit)) (now (out .exit))
+        r ⌝ }
 {
     let mut last = run;
     let mut to = from;
@@ -173,7 +175,8 @@ fn dense_joined_part(
     from: Left,
 ) -> Done
     requires { ⌜ (1 ≤ limit) × SnAsked limit run (now cs) (now ns) (now words) (now buf) (now out) from ⌝ }
-    ensures { λ r. ⌜ SnWritten limit run (now (cs .entry)) (now (ns .entry)) (now (buf .entry)) (now (out .entry)) from (now (buf .exit)) (now (out .exit)) r ⌝ }
+    ensures { λ r. ⌜ SnWritten limit run (now (cs .entry)) (now (ns .entry)) (now (buf .entry)) (now (out .entry)) from (now (buf .exit)) (now (out .exit))
+        r ⌝ }
 {
     let mut last = run;
     let mut to = from;
@@ -248,7 +251,8 @@ pub fn sn_part(
     from: Left,
 ) -> Done
     requires { ⌜ SnAsked limit run (now cs) (now ns) (now words) (now buf) (now out) from ⌝ }
-    ensures { λ r. ⌜ SnWritten limit run (now (cs .entry)) (now (ns .entry)) (now (buf .entry)) (now (out .entry)) from (now (buf .exit)) (now (out .exit)) r ⌝ }
+    ensures { λ r. ⌜ SnWritten limit run (now (cs .entry)) (now (ns .entry)) (now (buf .entry)) (now (out .entry)) from (now (buf .exit)) (now (out .exit))
+        r ⌝ }
 {
     if limit == 0 {
         return detailed_part(cs, ns, run, words, buf, out, from);

@@ -102,8 +102,10 @@ fn put_pieces(
     out: &mut [u8],
     from: Left,
 ) -> Left
-    requires { ⌜ (count ≤ 16) × Ready (now buf) (from .left) (now words) × Room (now out) (from .place) (take (from .left) (now buf) ++ doneTexts signs count (now lengths) (now stars) (now gaps)) ⌝ }
-    ensures { λ r. ⌜ Added (now (buf .entry)) (now (out .entry)) from (doneTexts signs count (now (lengths .entry)) (now (stars .entry)) (now (gaps .entry))) (now (buf .exit)) (now (out .exit)) r ⌝ }
+    requires { ⌜ (count ≤ 16) × Ready (now buf) (from .left) (now words)
+        × Room (now out) (from .place) (take (from .left) (now buf) ++ doneTexts signs count (now lengths) (now stars) (now gaps)) ⌝ }
+    ensures { λ r. ⌜ Added (now (buf .entry)) (now (out .entry)) from
+        (doneTexts signs count (now (lengths .entry)) (now (stars .entry)) (now (gaps .entry))) (now (buf .exit)) (now (out .exit)) r ⌝ }
 {
     let mut to = from;
     let mut i: usize = 0;
@@ -128,7 +130,8 @@ pub fn standard_part(
     from: Left,
 ) -> StandardDone
     requires { ⌜ StandardAsked signs limit piece (now cs) (now ns) (now words) (now buf) (now out) from ⌝ }
-    ensures { λ r. ⌜ StandardWritten signs limit piece (now (cs .entry)) (now (ns .entry)) (now (buf .entry)) (now (out .entry)) from (now (buf .exit)) (now (out .exit)) r ⌝ }
+    ensures { λ r. ⌜ StandardWritten signs limit piece (now (cs .entry)) (now (ns .entry)) (now (buf .entry)) (now (out .entry)) from (now (buf .exit))
+        (now (out .exit)) r ⌝ }
 {
     let mut open = piece;
     let mut to = from;
@@ -167,7 +170,8 @@ pub fn dense_part(
     from: Left,
 ) -> StandardDone
     requires { ⌜ StandardAsked signs limit piece (now cs) (now ns) (now words) (now buf) (now out) from ⌝ }
-    ensures { λ r. ⌜ StandardWritten signs limit piece (now (cs .entry)) (now (ns .entry)) (now (buf .entry)) (now (out .entry)) from (now (buf .exit)) (now (out .exit)) r ⌝ }
+    ensures { λ r. ⌜ StandardWritten signs limit piece (now (cs .entry)) (now (ns .entry)) (now (buf .entry)) (now (out .entry)) from (now (buf .exit))
+        (now (out .exit)) r ⌝ }
 {
     let mut lengths = [0u64; 16];
     let mut stars = [false; 16];
@@ -211,7 +215,9 @@ pub fn standard_part_length(
     piece: Piece,
 ) -> StandardMeasured
     requires { ⌜ TokensBehind 1 (now cs) (now ns) × (piece .length ≤ 2 ^ 62) ⌝ }
-    ensures { λ r. ⌜ PartMeasured (standardPart signs limit (piece .length) (piece .starred) (now (cs .entry)) (now (ns .entry))) (standardFrom signs limit (r .piece .length) (r .piece .starred)) (47 * length (now (cs .entry))) (r .length) × (r .piece .length ≤ piece .length + 4294967296 * length (now (cs .entry))) ⌝ }
+    ensures { λ r. ⌜ PartMeasured (standardPart signs limit (piece .length) (piece .starred) (now (cs .entry)) (now (ns .entry)))
+        (standardFrom signs limit (r .piece .length) (r .piece .starred)) (47 * length (now (cs .entry))) (r .length)
+        × (r .piece .length ≤ piece .length + 4294967296 * length (now (cs .entry))) ⌝ }
 {
     let mut open = piece;
     let mut total: usize = 0;

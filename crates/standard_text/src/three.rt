@@ -88,7 +88,8 @@ fn gap_turn(
     simple: &mut [u8],
 ) -> PieceTurns
     requires { ⌜ GapAsked t gap n (now words) (now detailed) (now partial) (now simple) ⌝ }
-    ensures { λ r. ⌜ GapTurned t gap n (now (detailed .entry)) (now (detailed .exit)) (now (partial .entry)) (now (partial .exit)) (now (simple .entry)) (now (simple .exit)) r ⌝ }
+    ensures { λ r. ⌜ GapTurned t gap n (now (detailed .entry)) (now (detailed .exit)) (now (partial .entry)) (now (partial .exit)) (now (simple .entry))
+        (now (simple .exit)) r ⌝ }
 {
     let d = add_piece(detailed, t.detailed, t.piece, false, gap, false, words);
     let p = add_piece(partial, t.partial, t.piece, false, gap, true, words);
@@ -131,7 +132,8 @@ fn three_pieces(
     simple: &mut [u8],
 ) -> PieceTurns
     requires { ⌜ ThreeAsked 1 first (now cs) (now ns) (now words) (now detailed) (now partial) (now simple) ⌝ }
-    ensures { λ r. ⌜ ThreeOpened first (now (cs .entry)) (now (ns .entry)) (now (detailed .entry)) (now (detailed .exit)) (now (partial .entry)) (now (partial .exit)) (now (simple .entry)) (now (simple .exit)) r ⌝ }
+    ensures { λ r. ⌜ ThreeOpened first (now (cs .entry)) (now (ns .entry)) (now (detailed .entry)) (now (detailed .exit)) (now (partial .entry))
+        (now (partial .exit)) (now (simple .entry)) (now (simple .exit)) r ⌝ }
 {
     let mut t = first_turn(first);
     let mut i: usize = 0;
@@ -160,7 +162,10 @@ pub fn standard_three(
     simple: &mut [u8],
 ) -> Three
     requires { ⌜ ThreeAsked 1 first (now cs) (now ns) (now words) (now detailed) (now partial) (now simple) ⌝ }
-    ensures { λ r. ⌜ ThreeGrown (now (detailed .entry)) (now (detailed .exit)) (now (partial .entry)) (now (partial .exit)) (now (simple .entry)) (now (simple .exit)) (standardFrom false 0 first false (paired (now (cs .entry)) (now (ns .entry)))) (standardFrom true 0 first false (paired (now (cs .entry)) (now (ns .entry)))) (standardFrom true 1 first false (paired (now (cs .entry)) (now (ns .entry)))) r ⌝ }
+    ensures { λ r. ⌜ ThreeGrown (now (detailed .entry)) (now (detailed .exit)) (now (partial .entry)) (now (partial .exit)) (now (simple .entry))
+        (now (simple .exit)) (standardFrom false 0 first false (paired (now (cs .entry)) (now (ns .entry))))
+        (standardFrom true 0 first false (paired (now (cs .entry)) (now (ns .entry))))
+        (standardFrom true 1 first false (paired (now (cs .entry)) (now (ns .entry)))) r ⌝ }
 {
     let t = three_pieces(cs, ns, first, words, detailed, partial, simple);
     let last = t.joined;

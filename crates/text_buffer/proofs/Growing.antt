@@ -24,7 +24,8 @@ stored-first {old} {k} l a b c d h s =
     let two = set (set old k a) (k + 1) b in
     let e : k + 2 + 1 ≡ k + 3 = omega arith in
     let z : length two ≡ length old = length-set (set old k a) (k + 1) b ∙ length-set old k a in
-    let more : Grown two (set (set two (k + 2) c) (k + 3) d) (k + 2) (c ∷ d ∷ []) (k + 2 + 2) = rw e at (stored-two {old = two} {k = k + 2} c d (omega (arith, z))) in
+    let more : Grown two (set (set two (k + 2) c) (k + 3) d) (k + 2) (c ∷ d ∷ []) (k + 2 + 2) =
+    rw e at (stored-two {old = two} {k = k + 2} c d (omega (arith, z))) in
     let g = kept {old = old} {k = k} l (a ∷ b ∷ c ∷ d ∷ []) (omega arith) (omega arith) (grown (a ∷ b ∷ []) (c ∷ d ∷ []) (stored-two a b (omega arith)) more) in
     rw (first-of l a b c d s) at g
 

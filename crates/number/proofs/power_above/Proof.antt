@@ -1,4 +1,5 @@
--- `number::power_above` meets its contract. The table's rule, that its entry k is the k-th power of ten, is a test at each of its twenty entries, which antt computes.
+-- `number::power_above` meets its contract. The table's rule, that its entry k is the k-th power of ten, is a test at each of its twenty entries,
+-- which antt computes.
 -- Assumes nothing.
 use Prim.Native.Nat.{ℕ, _-_, _^_, _≤_, _<_}
 use mathlib.Core.Path.{_≡_}
@@ -14,7 +15,8 @@ use Rattle.number.proofs.power_above.Statement.{statement}
 use Rattle.number.proofs.power_above.Tie as tie
 
 abbrev table : List ℕ
-table = 1 ∷ 10 ∷ 100 ∷ 1000 ∷ 10000 ∷ 100000 ∷ 1000000 ∷ 10000000 ∷ 100000000 ∷ 1000000000 ∷ 10000000000 ∷ 100000000000 ∷ 1000000000000 ∷ 10000000000000 ∷ 100000000000000 ∷ 1000000000000000 ∷ 10000000000000000 ∷ 100000000000000000 ∷ 1000000000000000000 ∷ 10000000000000000000 ∷ []
+table = 1 ∷ 10 ∷ 100 ∷ 1000 ∷ 10000 ∷ 100000 ∷ 1000000 ∷ 10000000 ∷ 100000000 ∷ 1000000000 ∷ 10000000000 ∷ 100000000000 ∷ 1000000000000 ∷ 10000000000000 ∷
+    100000000000000 ∷ 1000000000000000 ∷ 10000000000000000 ∷ 100000000000000000 ∷ 1000000000000000000 ∷ 10000000000000000000 ∷ []
 
 power : (k : ℕ) → k < 20 → getD table k 0 ≡ 10 ^ k
 power k h = eqb→eq (getD table k 0) (10 ^ k) (at (λ k x. eqb x (10 ^ k)) table tt k h)

@@ -76,12 +76,14 @@ add-long-slice-write-buf-2 : (t : ℕ) → add-long-lts.Need-slice-write-buf-2 (
   add-long-below t,
   add-long.Post,
 ) (add-long-at t) add-long.Post
-add-long-slice-write-buf-2 t c = let s = c .before .before .before .before .before .before in last-place (s .args .n) (omega arith) (s .pre .1) (c .before .before .add-long .ensures)
+add-long-slice-write-buf-2 t c = let s = c .before .before .before .before .before .before in
+    last-place (s .args .n) (omega arith) (s .pre .1) (c .before .before .add-long .ensures)
 
 add-long-add-result-2 :
     (t : ℕ) →
     add-long-lts.Need-add-result-2 (add-long-below t, add-long.Post) (add-long-at t) add-long.Post
-add-long-add-result-2 t c = let s = c .before .before .before .before .before .before in omega (arith, last-place (s .args .n) (omega arith) (s .pre .1) (c .before .before .add-long .ensures))
+add-long-add-result-2 t c = let s = c .before .before .before .before .before .before in
+    omega (arith, last-place (s .args .n) (omega arith) (s .pre .1) (c .before .before .add-long .ensures))
 
 add-long-same-length-2 : (t : ℕ) → add-long-lts.Need-same-length-2 (
   add-long-below t,
@@ -92,7 +94,8 @@ add-long-same-length-2 t c = search needs
 add-long-returns-2 :
     (t : ℕ) →
     add-long-lts.Need-returns-2 (add-long-below t, add-long.Post) (add-long-at t) add-long.Post
-add-long-returns-2 t c = let s = c .before .before .before .before .before .before in last-digit (s .args .n) (omega arith) (s .pre .1) (c .before .before .add-long .ensures)
+add-long-returns-2 t c = let s = c .before .before .before .before .before .before in
+    last-digit (s .args .n) (omega arith) (s .pre .1) (c .before .before .add-long .ensures)
 
 pub +add-long-spec : {M : Type 1} → statement M
 +add-long-spec =

@@ -30,7 +30,8 @@ same-length : tie.Need-same-length
 same-length c = search needs
 
 returns : tie.Need-returns
-returns c = grown _ _ (c .before .before .before .before .before .before .before .before .before .before .add-u64 .ensures) (grown _ _ (c .before .before .before .before .before .before .add-star .ensures) (c .before .before .add-gap .ensures))
+returns c = grown _ _ (c .before .before .before .before .before .before .before .before .before .before .add-u64 .ensures)
+    (grown _ _ (c .before .before .before .before .before .before .add-star .ensures) (c .before .before .add-gap .ensures))
 
 pub add-piece-spec : {M : Type 1} → statement M
 add-piece-spec =

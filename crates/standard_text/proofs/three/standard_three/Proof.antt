@@ -18,11 +18,14 @@ add-u64-requires-2 : tie.Need-add-u64-requires-2
 add-u64-requires-2 c κs = search needs
 
 add-u64-requires-3 : tie.Need-add-u64-requires-3
-add-u64-requires-3 c κs = omega (arith, c .before .before .before .before .before .before .before .before .before .before .before .before .before .before .before .before .three-pieces .ensures .partial .room)
+add-u64-requires-3 c κs =
+    let t = c .before .before .before .before .before .before .before .before .before .before .before .before .before .before .before .before .three-pieces in
+    omega (arith, t .ensures .partial .room)
 
 add-star-requires : tie.Need-add-star-requires
 add-star-requires c κs =
-    let t = c .before .before .before .before .before .before .before .before .before .before .before .before .before .before .before .before .before .before .before .before .three-pieces in
+    let s = c .before .before .before .before .before .before .before .before .before .before in
+    let t = s .before .before .before .before .before .before .before .before .before .before .three-pieces in
     let o = t .ensures .simple in
     let a = c .before .before .before .before .before .before .before .before .before .before .before .add-u64 .ensures in
     omega (arith, o .room, a .next, a .long, at-most 20 (t .result .joined .length) (omega arith) (omega arith))
@@ -38,11 +41,14 @@ same-length-3 c = search needs
 
 returns : tie.Need-returns
 returns c =
-    let e = c .before .before .before .before .before .before .before .before .before .before .before .before .before .before .before .before .before .before .before .before .before .before .before .three-pieces .ensures in
+    let s = c .before .before .before .before .before .before .before .before .before .before .before in
+    let e = s .before .before .before .before .before .before .before .before .before .before .before .before .three-pieces .ensures in
     record {
       first = opened-ends (e .detailed) (c .before .before .before .before .before .before .before .before .before .before .add-u642 .ensures) grown-none;
       second = opened-ends (e .partial) (c .before .before .before .before .before .before .add-u643 .ensures) grown-none;
-      third = opened-ends (e .simple) (c .before .before .before .before .before .before .before .before .before .before .before .before .before .before .add-u64 .ensures) (c .before .before .add-star .ensures);
+      third = opened-ends (e .simple)
+          (c .before .before .before .before .before .before .before .before .before .before .before .before .before .before .add-u64 .ensures)
+          (c .before .before .add-star .ensures);
     }
 
 pub standard-three-spec : {M : Type 1} → statement M

@@ -15,7 +15,8 @@ mark-word : (c : tie.After-class-word) → Word (mark (c .before .before .before
 mark-word c = let s = c .before .before .before in rw (c .class-word .ensures) (s .pre .1 .marks (s .args .run .class) (s .pre .2))
 
 -- the mark
-front : (c : tie.After-add-word) → Grown (c .before .before .before .before .args .buf .now) (c .add-word .last .0) (c .before .before .before .before .args .k) (mark (c .before .before .before .before .args .run .class)) (c .add-word .result)
+front : (c : tie.After-add-word) → Grown (c .before .before .before .before .args .buf .now) (c .add-word .last .0)
+    (c .before .before .before .before .args .k) (mark (c .before .before .before .before .args .run .class)) (c .add-word .result)
 front c = worded (mark-word (c .before)) (c .add-word .ensures)
 
 class-word-requires : tie.Need-class-word-requires
@@ -25,7 +26,8 @@ add-word-requires : tie.Need-add-word-requires
 add-word-requires c κs = (omega (arith, c .before .before .before .pre .0), mark-word c .short)
 
 add-u64-requires : tie.Need-add-u64-requires
-add-u64-requires c κs = let s = c .before .before .before .before .before .before .before in let a = front (c .before .before .before) in omega (arith, s .pre .0, a .next, a .long, mark-short (s .args .run .class))
+add-u64-requires c κs = let s = c .before .before .before .before .before .before .before in let a = front (c .before .before .before) in
+    omega (arith, s .pre .0, a .next, a .long, mark-short (s .args .run .class))
 
 end-word-requires : tie.Need-end-word-requires
 end-word-requires c κs = search needs
@@ -34,8 +36,20 @@ add-word-requires-2 : tie.Need-add-word-requires-2
 add-word-requires-2 c κs =
     let s = c .before .before .before .before .before .before .before .before .before .before .before .before in
     let a = front (c .before .before .before .before .before .before .before .before) in
-    let b = c .before .before .before .before .add-u64 .ensures in
-    (omega (arith, s .pre .0, a .next, a .long, mark-short (s .args .run .class), b .next, b .long, at-most 20 (s .args .run .length) (omega arith) (omega arith)), c .end-word .ensures .short)
+    let b = c .before .before .before .before .add-u64 .ensures in (
+      omega (
+        arith,
+        s .pre .0,
+        a .next,
+        a .long,
+        mark-short (s .args .run .class),
+        b .next,
+        b .long,
+        at-most 20 (s .args .run .length) (omega arith)
+            (omega arith),
+      ),
+      c .end-word .ensures .short,
+    )
 
 same-length : tie.Need-same-length
 same-length c = search needs
@@ -44,7 +58,9 @@ returns : tie.Need-returns
 returns c =
     let r = c .before .before .before .before .before .before .before .before .before .before .before .before .before .before .before .args .run in
     let e = worded (c .before .before .before .end-word .ensures) (c .before .before .add-word2 .ensures) in
-    rw (ended-run (r .class) (r .length) (r .starred)) at (grown _ _ (front (c .before .before .before .before .before .before .before .before .before .before .before)) (grown _ _ (c .before .before .before .before .before .before .before .add-u64 .ensures) e))
+    rw (ended-run (r .class) (r .length) (r .starred)) at
+    (grown _ _ (front (c .before .before .before .before .before .before .before .before .before .before .before))
+    (grown _ _ (c .before .before .before .before .before .before .before .add-u64 .ensures) e))
 
 pub add-ended-spec : {M : Type 1} → statement M
 add-ended-spec =

@@ -17,17 +17,33 @@ digit-count-requires : tie.Need-digit-count-requires
 digit-count-requires c κs = search needs
 
 add-result : tie.Need-add-result
-add-result c = omega (arith, mark-right (c .before .before), mark-short (c .before .before .before .before .args .run .class), c .before .digit-count .ensures .most)
+add-result c = omega (
+  arith,
+  mark-right (c .before .before),
+  mark-short (c .before .before .before .before .args .run .class),
+  c .before .digit-count .ensures .most,
+)
 
 add-result-2 : tie.Need-add-result-2
-add-result-2 c = omega (arith, mark-right (c .before .before), mark-short (c .before .before .before .before .args .run .class), c .before .digit-count .ensures .most)
+add-result-2 c = omega (
+  arith,
+  mark-right (c .before .before),
+  mark-short (c .before .before .before .before .args .run .class),
+  c .before .digit-count .ensures .most,
+)
 
 star-length-requires : tie.Need-star-length-requires
 star-length-requires c κs = search needs
 
 add-result-3 : tie.Need-add-result-3
 add-result-3 c =
-    omega (arith, mark-right (c .before .before .before), mark-short (c .before .before .before .before .before .args .run .class), c .before .before .digit-count .ensures .most, c .star-length .ensures .short)
+    omega (
+      arith,
+      mark-right (c .before .before .before),
+      mark-short (c .before .before .before .before .before .args .run .class),
+      c .before .before .digit-count .ensures .most,
+      c .star-length .ensures .short,
+    )
 
 returns : tie.Need-returns
 returns c =

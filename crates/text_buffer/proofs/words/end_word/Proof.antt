@@ -29,7 +29,8 @@ class-word-requires : tie.Need-class-word-requires
 class-word-requires c κs = (row-inside (c .before .args .starred) _ (c .end-row .ensures), c .before .pre .1)
 
 returns : tie.Need-returns
-returns c = let s = c .before .before in rw (c .class-word .ensures, c .before .end-row .ensures) (row-right (s .pre .0) (s .args .class) (s .args .starred) (s .pre .1))
+returns c = let s = c .before .before in
+    rw (c .class-word .ensures, c .before .end-row .ensures) (row-right (s .pre .0) (s .args .class) (s .args .starred) (s .pre .1))
 
 pub end-word-spec : {M : Type 1} → statement M
 end-word-spec = tie.close (tie.spec end-row-requires class-word-requires returns)

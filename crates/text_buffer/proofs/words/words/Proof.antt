@@ -51,19 +51,25 @@ slice-aggregate-set-row-3 : tie.Need-slice-aggregate-set-row-3
 slice-aggregate-set-row-3 c = search needs
 
 set-row-requires-3 : tie.Need-set-row-requires-3
-set-row-requires-3 c κs = (omega arith, omega (arith, word-count (space (c .before .before .before .before .before .before .before .before .before .before .before))))
+set-row-requires-3 c κs =
+    let w = c .before .before .before .before .before .before .before .before .before .before .before in
+    (omega arith, omega (arith, word-count (space w)))
 
 slice-aggregate-set-row-4 : tie.Need-slice-aggregate-set-row-4
 slice-aggregate-set-row-4 c = search needs
 
 set-row-requires-4 : tie.Need-set-row-requires-4
-set-row-requires-4 c κs = (omega arith, omega (arith, word-count (space (c .before .before .before .before .before .before .before .before .before .before .before .before .before .before))))
+set-row-requires-4 c κs =
+    let w = c .before .before .before .before .before .before .before .before .before .before .before .before .before .before in
+    (omega arith, omega (arith, word-count (space w)))
 
 slice-aggregate-set-row-5 : tie.Need-slice-aggregate-set-row-5
 slice-aggregate-set-row-5 c = search needs
 
 set-row-requires-5 : tie.Need-set-row-requires-5
-set-row-requires-5 c κs = (omega arith, omega (arith, word-count (star (c .before .before .before .before .before .before .before .before .before .before .before .before .before .before .before .before))))
+set-row-requires-5 c κs =
+    let w = c .before .before .before .before .before .before .before .before .before .before .before .before .before .before .before .before in
+    (omega arith, omega (arith, word-count (star w)))
 
 slice-aggregate-set-signs : tie.Need-slice-aggregate-set-signs
 slice-aggregate-set-signs c = search needs
@@ -81,7 +87,9 @@ word-before-requires-7 : tie.Need-word-before-requires-7
 word-before-requires-7 c κs = search needs
 
 word-before-requires-8 : tie.Need-word-before-requires-8
-word-before-requires-8 c κs = omega (arith, word-count (bar (c .before .before .before .before .before .before .before .before .before .before .before .before .before .before .before .before .before .before .before .before .before)))
+word-before-requires-8 c κs =
+    let w = c .before .before .before .before .before .before .before .before .before .before in
+    omega (arith, word-count (bar (w .before .before .before .before .before .before .before .before .before .before .before)))
 
 set-signs-requires-2 : tie.Need-set-signs-requires-2
 set-signs-requires-2 c κs = search needs
