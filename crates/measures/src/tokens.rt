@@ -10,7 +10,7 @@ ghost use Rattle.rules.specs.Slices.{leading};
 ghost use Rattle.measures.specs.Tokens.{MeasurePlace};
 
 // One past the measures of class `class` that stand at `at` and behind it.
-pub fn run_end(m: &[u32], at: usize, class: u8) -> usize
+fn run_end(m: &[u32], at: usize, class: u8) -> usize
     requires { ⌜ MeasurePlace (now m) at ⌝ }
     ensures { λ r. ⌜ r ≡ at + leading class (classes (drop at (now (m .entry)))) ⌝ }
 {
