@@ -22,8 +22,9 @@ use Rattle.rules.specs.declared.StreamBreakdownLevel.the-variants as Level
 use Rattle.rules.proofs.Domain.{within}
 use Rattle.rules.proofs.Share.{share-most}
 use Rattle.rules.proofs.Steps.{active-part}
-use Rattle.measures.specs.Answers.{hasStream, sameBytes}
-use Rattle.measures.proofs.Same.{same-exactly}
+use Rattle.counts.specs.Promises.{hasStream}
+use Rattle.alike.specs.Promises.{sameBytes}
+use Rattle.alike.proofs.Same.{same-exactly}
 use Rattle.token_view.specs.Promises.{noToken}
 use Rattle.segments.specs.Promises.{segmentsNo, noSegment, nthSegment}
 use Rattle.segments.specs.declared.SegmentsAnswer.{SegmentsAnswer}

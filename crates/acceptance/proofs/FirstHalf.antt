@@ -5,7 +5,8 @@ use mathlib.Core.Path.{_≡_, sym, _∙_}
 use mathlib.Core.List.{List}
 use Rattle.rules.specs.Chart.{classes}
 use Rattle.rules.proofs.Demand.{same-classes}
-use Rattle.measures.proofs.Answers.{same-counts, same-share, same-alike}
+use Rattle.counts.proofs.Same.{same-counts, same-share}
+use Rattle.alike.proofs.Same.{same-alike}
 use Rattle.token_view.proofs.Same as token-view
 use Rattle.segments.proofs.Same as segments
 use Rattle.chart_texts.proofs.Same.{same-breakdown, same-breakdowns}

@@ -11,7 +11,7 @@ use Rattle.number.specs.declared.Written.{Written}
 use Rattle.rules.specs.Chart.{inDomain, classes, tokens, counts, noCounts}
 use Rattle.rules.specs.Texts.{passKinds, lengthsOf}
 use Rattle.rules.specs.Calls.{segments, share, stepAt, labelChoice}
-use Rattle.measures.specs.Answers.{hasStream}
+use Rattle.counts.specs.Promises.{hasStream}
 use Rattle.token_view.specs.Promises.{noToken}
 use Rattle.segments.specs.Promises.{segmentsNo, noSegment, firstSegment, nthSegment}
 use Rattle.rules.specs.declared.StreamSegment.{StreamSegment}

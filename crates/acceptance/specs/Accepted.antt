@@ -19,7 +19,8 @@ use Rattle.rules.specs.declared.RunDensity.{RunDensity}
 use Rattle.rules.specs.declared.StreamSegment.{StreamSegment}
 use Rattle.rules.specs.declared.ViewToken.{ViewToken}
 use Rattle.rules.specs.declared.StreamBreakdownLevel.the-variants as Level
-use Rattle.measures.specs.Answers.{countsAnswer, shareAnswer, alikeAnswer}
+use Rattle.counts.specs.Promises.{countsAnswer, shareAnswer}
+use Rattle.alike.specs.Promises.{alikeAnswer}
 use Rattle.token_view.specs.Promises.{Opening, Step, nthAnswer}
 use Rattle.segments.specs.Promises.{Segmented, firstSegment, nthSegment}
 use Rattle.segments.specs.declared.SegmentsAnswer.{SegmentsAnswer}

@@ -10,7 +10,8 @@ use Rattle.rules.specs.Demand.{SameClasses}
 use Rattle.rules.specs.declared.Kind.{Kind}
 use Rattle.rules.specs.declared.StreamSegment.{StreamSegment}
 use Rattle.rules.specs.declared.ViewToken.{ViewToken}
-use Rattle.measures.specs.Answers.{countsAnswer, shareAnswer, alikeAnswer}
+use Rattle.counts.specs.Promises.{countsAnswer, shareAnswer}
+use Rattle.alike.specs.Promises.{alikeAnswer}
 use Rattle.token_view.specs.Promises.{nthAnswer}
 use Rattle.token_view.specs.Steps.{Stepped}
 use Rattle.segments.specs.Promises.{Segmented, nthSegment}

@@ -14,7 +14,8 @@ use Rattle.number.specs.declared.Written.{Written}
 use Rattle.rules.specs.Chart.{noCounts}
 use Rattle.rules.specs.declared.Kind.{Kind}
 use Rattle.rules.specs.declared.StreamSegment.{StreamSegment}
-use Rattle.measures.specs.Answers.{countsAnswer, shareAnswer, alikeAnswer}
+use Rattle.counts.specs.Promises.{countsAnswer, shareAnswer}
+use Rattle.alike.specs.Promises.{alikeAnswer}
 use Rattle.token_view.specs.Promises.{Opening, noToken, nthAnswer}
 use Rattle.segments.specs.Promises.{Segmented, noSegment, nthSegment}
 use Rattle.segments.specs.declared.SegmentsAnswer.{SegmentsAnswer}

@@ -1,11 +1,11 @@
 // The parts of a chart's line, each put at a place of the line and answering the next place.
+use alike::alike;
 use chart_list::line::put_bytes;
 use chart_list::line::put_number;
+use counts::compute_stream_counts;
+use counts::share::share;
 use libc::STDOUT_FILENO;
 use measures::active::active_range;
-use measures::alike::alike;
-use measures::counts::compute_stream_counts;
-use measures::share::share;
 use rules::StreamCounts;
 use segments::segment_at;
 use token_view::nth_token;

@@ -12,9 +12,9 @@ use borrow.Author.Tests.{ne-eqb}
 use Rattle.rules.specs.Chart.{Token, token, wideGaps}
 use Rattle.number.proofs.Split.{split}
 use Rattle.rules.specs.Slices.{paired, total}
-use Rattle.measures.specs.Sums.{held, wideOf, sumsOf}
+use Rattle.counts.specs.Sums.{held, wideOf, sumsOf}
 use Rattle.scan.specs.Scan.{Paired}
-use Rattle.measures.proofs.Counted.{held-most, wide-most}
+use Rattle.counts.proofs.TokenSums.{held-most, wide-most}
 use Rattle.rules.proofs.Pairs.{slices-next, none-left}
 
 total-drop : (i : ℕ) (ts : List Token) → total (drop i ts) ≤ total ts

@@ -18,7 +18,7 @@ use Rattle.rules.specs.Slices.{paired, total}
 use Rattle.number.specs.Questions.{filled}
 use Rattle.scan.specs.Scan.{OfClass, RoomForRuns, ScanInvariant, FirstRuns}
 use Rattle.measures.proofs.Part.{class-of-place}
-use Rattle.measures.proofs.Counted.{paired-runs}
+use Rattle.counts.proofs.TokenSums.{paired-runs}
 use Rattle.rules.proofs.Cost.{total-append}
 use Rattle.scan.proofs.Front.{some-run, after, paired-front}
 use Rattle.scan.proofs.Written.{all-first}

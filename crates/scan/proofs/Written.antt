@@ -11,7 +11,7 @@ use Rattle.rules.specs.Chart.{classes, Token, class, len, runs}
 use Rattle.rules.proofs.Cost.{total-runs}
 use Rattle.rules.specs.Slices.{paired}
 use Rattle.scan.specs.Scan.{InSlices, FirstRuns, Paired}
-use Rattle.measures.proofs.Counted.{paired-runs}
+use Rattle.counts.proofs.TokenSums.{paired-runs}
 
 module _ {ts : List Token} {k : ℕ} {cs₀ cs₁ ns₀ ns₁ : List ℕ} (w : InSlices ts k cs₀ cs₁ ns₀ ns₁) where
   within : (f : Token → ℕ) (old new : List ℕ) → new ≡ filled old (map f ts) → k ≤ length new

@@ -1,10 +1,10 @@
 // One scan over a chart's measures: its tokens and its counts.
+use counts::Sums;
+use counts::counted;
+use counts::wide;
 use measures::active::active_behind;
 use measures::active::lead_in;
 use measures::active::skip;
-use measures::counts::Sums;
-use measures::counts::counted;
-use measures::counts::wide;
 use rules::StreamCounts;
 ghost use mathlib.Core.Path.{_≡_};
 ghost use mathlib.Core.Bool.{cond};
@@ -12,7 +12,7 @@ ghost use lib.Dec.{eqb};
 ghost use lib.ListN.{length};
 ghost use Prim.Native.Nat.{_+_, _≤_, _<_, _^_};
 ghost use Rattle.rules.specs.Chart.{classOf, tokens};
-ghost use Rattle.measures.specs.Sums.{sumsOf};
+ghost use Rattle.counts.specs.Sums.{sumsOf};
 ghost use Rattle.rules.specs.Slices.{paired};
 ghost use Rattle.scan.specs.Scan.{Bounded, OfClass, Steps, StepsTaken, ScanAsked, FirstRuns, Paired, TokenRoom, Scanned, RoomForTokens, FirstTokens};
 

@@ -26,7 +26,7 @@ use Rattle.rules.proofs.Bound.{text-most}
 use Rattle.rules.specs.Slices.{paired}
 use Rattle.scan.specs.Scan.{InSlices}
 use Rattle.measures.proofs.Part.{part-runs}
-use Rattle.measures.proofs.Counted.{tokens-few}
+use Rattle.counts.proofs.TokenSums.{tokens-few}
 use Rattle.scan.proofs.Written.{withinC, withinN, back}
 use Rattle.text_buffer.specs.Buffer.{Added, Ready, goesOn}
 use Rattle.text_buffer.specs.Parts.{Tokens}

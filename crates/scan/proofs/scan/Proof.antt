@@ -5,7 +5,7 @@ use mathlib.Core.Logic.{inl}
 use native.Mathlib.Omega.{arith}
 use lib.Seq.{length-take-le}
 use borrow.Author.Needs.{needs}
-use Rattle.measures.specs.Sums.{sumsOf}
+use Rattle.counts.specs.Sums.{sumsOf}
 use Rattle.measures.proofs.Part.{part-within, part-runs}
 use Rattle.scan.proofs.Written.{withinC, withinN, back, pairs}
 use Rattle.scan.proofs.scan.Statement.{statement}

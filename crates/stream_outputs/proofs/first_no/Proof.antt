@@ -2,7 +2,7 @@
 -- Assumes nothing.
 use Prim.Native.Nat.{_≤_}
 use native.Mathlib.Omega.{arith}
-use Rattle.measures.proofs.Counted.{tokens-few}
+use Rattle.counts.proofs.TokenSums.{tokens-few}
 use Rattle.breakdown.proofs.Modes.{active-measures}
 use Rattle.stream_outputs.proofs.Pass.{roomy, no-1, no-2, no-4, no-0, sum, due-tokens, due-bytes}
 use borrow.Author.Needs.{needs}

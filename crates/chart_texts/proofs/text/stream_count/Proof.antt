@@ -1,7 +1,7 @@
 -- `chart_texts::text::stream_count` meets its contract.
 -- Assumes nothing.
 use native.Mathlib.Omega.{arith}
-use Rattle.measures.proofs.Shared.{Known, known}
+use Rattle.counts.proofs.Shared.{Known, known}
 use borrow.Author.Needs.{needs}
 use Rattle.chart_texts.proofs.text.stream_count.Statement.{statement}
 use Rattle.chart_texts.proofs.text.stream_count.Tie as tie

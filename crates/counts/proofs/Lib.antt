@@ -1,0 +1,4 @@
+pub mod TokenSums
+pub mod Tallied
+pub mod Shared
+pub mod Same
