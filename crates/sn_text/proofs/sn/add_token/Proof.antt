@@ -40,7 +40,7 @@ add-u64-requires : tie.Need-add-u64-requires
 add-u64-requires c κs =
     let s = c .before .before .before .before .before .before .before in
     let a = worded (before-word (c .before .before .before .before)) (c .before .before .before .add-word .ensures) in
-    omega (arith, s .pre .0, a .next, a .long, side-short 40 (s .args .class))
+    (omega (arith, s .pre .0, a .next, a .long, side-short 40 (s .args .class)), omega arith, s .pre .1 .number)
 
 class-word-requires-2 : tie.Need-class-word-requires-2
 class-word-requires-2 c κs = search needs
