@@ -11,7 +11,7 @@ use lib.Seq.{length-take-le, length-sets, sets-eq, take-suc-set, take-take, take
 use Rattle.number.specs.Digits.{digits}
 use Rattle.number.specs.Grown.{Grown}
 use Rattle.number.specs.Place.{Room, Wrote}
-use Rattle.number.proofs.Digits.{digits-one, digits-more, length-more}
+use Rattle.number.proofs.Digits.{digits-more, length-more}
 
 module _ {old : List ℕ} {k : ℕ} where
   pub grown-none : Grown old old k [] k
@@ -84,16 +84,3 @@ module _ {old : List ℕ} {k : ℕ} (n : ℕ) (h : 10 ≤ n) (f : Room old k (di
 
     pub last-digit : Grown old (set mid r (48 + n % 10)) k (digits n) (r + 1)
     last-digit = rw (digits-more n h) (grown (digits (n / 10)) ((48 + n % 10) ∷ []) g (stored (48 + n % 10) last-place))
-
--- a number of two digits, and one of a single digit that is stored over a first
-module _ {old : List ℕ} {k : ℕ} (n : ℕ) (l : k + 2 ≤ length old) where
-  pub two-digits : 10 ≤ n → n < 100 → Grown old (set (set old k (48 + n / 10)) (k + 1) (48 + n % 10)) k (digits n) (k + 1 + 1)
-  two-digits g h =
-      let e : k + 1 + 1 ≡ k + 2 = omega arith in
-      rw (e, digits-more n g, digits-one (n / 10) (omega arith)) (stored-two (48 + n / 10) (48 + n % 10) l)
-
-  pub one-digit : n < 10 → Grown old (set (set old k (48 + n / 10)) k (48 + n % 10)) k (digits n) (k + 1)
-  one-digit h =
-      let e : n % 10 ≡ n = omega arith in
-      let none : Grown old (set old k (48 + n / 10)) k [] k = dropped ((48 + n / 10) ∷ []) (omega arith) (stored (48 + n / 10) (omega arith)) in
-      rw (e, digits-one n h) (grown [] ((48 + n) ∷ []) none (stored (48 + n) (omega (arith, none .long))))

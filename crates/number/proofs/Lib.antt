@@ -6,3 +6,5 @@ pub mod Read
 pub mod Push
 pub mod Place
 pub mod Grown
+pub mod Word
+pub mod Stretch

@@ -2,4 +2,6 @@ pub mod Digits
 pub mod Questions
 pub mod Place
 pub mod Grown
+pub mod Word
+pub mod Stretch
 pub mod Pushed

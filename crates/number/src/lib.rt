@@ -1,5 +1,6 @@
 // The number writer: a u64 in base ten.
 pub mod buffer;
+pub mod words;
 
 ghost use Rattle.number.specs.Digits.{digits};
 ghost use Rattle.number.specs.Place.{Room, Wrote};

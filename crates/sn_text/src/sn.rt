@@ -1,8 +1,8 @@
 // SN texts, part by part. The join limit says the mode: 0 detailed, 1 partial, 4 simplified.
 use number::buffer::add_u64;
+use number::buffer::add_word;
 use number::digit_count;
 use text_buffer::buffer::Left;
-use text_buffer::buffer::add_word;
 use text_buffer::buffer::flush;
 use text_buffer::gap::sign_word;
 use text_buffer::run::Done;
@@ -113,7 +113,7 @@ pub fn add_group(
     limit: u32,
     run: Run,
     gap: u32,
-    words: &[u32; 92],
+    words: &[u32; 192],
 ) -> usize
     requires { ⌜ (k + 29 ≤ length (now buf)) × Words (now words) × (1 ≤ limit) × (run .class ≢ 0) × (run .class ≤ 4) × (run .length + gap < 2 ^ 64) ⌝ }
     ensures { λ r. ⌜ Grown (now (buf .entry)) (now (buf .exit)) k (ended limit (shown limit (runToken run ∷ breakTokens gap))) r ⌝ }
@@ -129,7 +129,7 @@ fn joined_part(
     ns: &[u32],
     limit: u32,
     run: Run,
-    words: &[u32; 92],
+    words: &[u32; 192],
     buf: &mut [u8],
     out: &mut [u8],
     from: Left,
@@ -169,7 +169,7 @@ fn dense_joined_part(
     ns: &[u32],
     limit: u32,
     run: Run,
-    words: &[u32; 92],
+    words: &[u32; 192],
     buf: &mut [u8],
     out: &mut [u8],
     from: Left,
@@ -197,13 +197,13 @@ fn dense_joined_part(
 }
 
 // A run or a break, by its length, and a space; nothing for a break of 1.
-pub fn add_token(buf: &mut [u8], k: usize, class: u8, n: u32, words: &[u32; 92]) -> usize
+pub fn add_token(buf: &mut [u8], k: usize, class: u8, n: u32, words: &[u32; 192]) -> usize
     requires { ⌜ (k + 26 ≤ length (now buf)) × Words (now words) × (class ≤ 4) ⌝ }
     ensures { λ r. ⌜ Grown (now (buf .entry)) (now (buf .exit)) k (ended 0 (dropOnes (token class n false ∷ []))) r ⌝ }
 {
-    let a = add_word(buf, k, class_word(words, 5, class));
-    let b = add_u64(buf, a, n as u64);
-    let c = add_word(buf, b, class_word(words, 10, class));
+    let a = add_word(buf, k, class_word(words, 105, class));
+    let b = add_u64(buf, a, n as u64, words);
+    let c = add_word(buf, b, class_word(words, 110, class));
     if (class == 0) & (n == 1) { k } else { c }
 }
 
@@ -212,7 +212,7 @@ fn detailed_part(
     cs: &[u8],
     ns: &[u32],
     run: Run,
-    words: &[u32; 92],
+    words: &[u32; 192],
     buf: &mut [u8],
     out: &mut [u8],
     from: Left,
@@ -245,7 +245,7 @@ pub fn sn_part(
     limit: u32,
     dense: bool,
     run: Run,
-    words: &[u32; 92],
+    words: &[u32; 192],
     buf: &mut [u8],
     out: &mut [u8],
     from: Left,

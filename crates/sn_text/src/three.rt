@@ -33,7 +33,7 @@ struct Turns {
 }
 
 // The next run right behind the open one, which is written: in no text do they join.
-fn adjacent_turn(buf: &mut [u8], k: usize, last: Run, next: Run, words: &[u32; 92]) -> Turn
+fn adjacent_turn(buf: &mut [u8], k: usize, last: Run, next: Run, words: &[u32; 192]) -> Turn
     requires { ⌜ (k + 52 ≤ length (now buf)) × Words (now words) × (last .class ≢ 0) × (last .class ≤ 4) × (next .class ≢ 0) ⌝ }
     ensures { λ r. ⌜ ((limit : ℕ) → Turned limit (runToken last) 0 (runToken next) (now (buf .entry)) k (now (buf .exit)) r) ⌝ }
 {
@@ -50,7 +50,7 @@ fn detailed_turn(
     last: Run,
     gap: u32,
     next: Run,
-    words: &[u32; 92],
+    words: &[u32; 192],
 ) -> Turn
     requires { ⌜ (k + 52 ≤ length (now buf)) × Words (now words) × (1 ≤ gap) × (last .class ≢ 0) × (last .class ≤ 4) × (next .class ≢ 0) ⌝ }
     ensures { λ r. ⌜ Turned 0 (runToken last) gap (runToken next) (now (buf .entry)) k (now (buf .exit)) r ⌝ }
@@ -70,10 +70,9 @@ fn joined_turn(
     last: Run,
     gap: u32,
     next: Run,
-    words: &[u32; 92],
+    words: &[u32; 192],
 ) -> Turn
-    requires { ⌜ (k + 52 ≤ length (now buf)) × Words (now words) × (1 ≤ limit) × (last .class ≢ 0) × (last .class ≤ 4) × (next .class ≢ 0)
-        × (last .length + (gap + next .length) < 2 ^ 64) ⌝ }
+    requires { ⌜ (k + 52 ≤ length (now buf)) × Words (now words) × (1 ≤ limit) × (last .class ≢ 0) × (last .class ≤ 4) × (next .class ≢ 0) × (last .length + (gap + next .length) < 2 ^ 64) ⌝ }
     ensures { λ r. ⌜ Turned limit (runToken last) gap (runToken next) (now (buf .entry)) k (now (buf .exit)) r ⌝ }
 {
     if next.class == join_class(limit, last.class, gap) {
@@ -97,14 +96,13 @@ fn three_turns(
     cs: &[u8],
     ns: &[u32],
     first: Run,
-    words: &[u32; 92],
+    words: &[u32; 192],
     detailed: &mut [u8],
     partial: &mut [u8],
     simplified: &mut [u8],
 ) -> Turns
     requires { ⌜ ThreeAsked (first .class) (first .length) (now cs) (now ns) (now words) (now detailed) (now partial) (now simplified) ⌝ }
-    ensures { λ r. ⌜ ThreeOpened (runToken first) (now (cs .entry)) (now (ns .entry)) (now (detailed .entry)) (now (detailed .exit)) (now (partial .entry))
-        (now (partial .exit)) (now (simplified .entry)) (now (simplified .exit)) r ⌝ }
+    ensures { λ r. ⌜ ThreeOpened (runToken first) (now (cs .entry)) (now (ns .entry)) (now (detailed .entry)) (now (detailed .exit)) (now (partial .entry)) (now (partial .exit)) (now (simplified .entry)) (now (simplified .exit)) r ⌝ }
 {
     let mut a = Turn {
         run: first,
@@ -140,15 +138,13 @@ pub fn sn_three(
     cs: &[u8],
     ns: &[u32],
     first: Run,
-    words: &[u32; 92],
+    words: &[u32; 192],
     detailed: &mut [u8],
     partial: &mut [u8],
     simplified: &mut [u8],
 ) -> Three
     requires { ⌜ ThreeAsked (first .class) (first .length) (now cs) (now ns) (now words) (now detailed) (now partial) (now simplified) ⌝ }
-    ensures { λ r. ⌜ ThreeGrown (now (detailed .entry)) (now (detailed .exit)) (now (partial .entry)) (now (partial .exit)) (now (simplified .entry))
-        (now (simplified .exit)) (snOf 0 (runToken first ∷ paired (now (cs .entry)) (now (ns .entry))))
-        (snOf 1 (runToken first ∷ paired (now (cs .entry)) (now (ns .entry)))) (snOf 4 (runToken first ∷ paired (now (cs .entry)) (now (ns .entry)))) r ⌝ }
+    ensures { λ r. ⌜ ThreeGrown (now (detailed .entry)) (now (detailed .exit)) (now (partial .entry)) (now (partial .exit)) (now (simplified .entry)) (now (simplified .exit)) (snOf 0 (runToken first ∷ paired (now (cs .entry)) (now (ns .entry)))) (snOf 1 (runToken first ∷ paired (now (cs .entry)) (now (ns .entry)))) (snOf 4 (runToken first ∷ paired (now (cs .entry)) (now (ns .entry)))) r ⌝ }
 {
     let t = three_turns(cs, ns, first, words, detailed, partial, simplified);
     let a = t.detailed;

@@ -2,10 +2,10 @@
 use crate::piece::Piece;
 use crate::piece::fill;
 use number::buffer::add_u64;
+use number::buffer::add_word;
 use number::digit_count;
 use text_buffer::buffer::Left;
 use text_buffer::buffer::add_byte;
-use text_buffer::buffer::add_word;
 use text_buffer::buffer::flush;
 use text_buffer::gap::add_in_parens;
 use text_buffer::gap::part_word;
@@ -52,24 +52,24 @@ fn first_byte(n: u32) -> u8
 }
 
 // A gap by its length: "-" for 1, else in parentheses, which are stored anyway: the place says whether they count.
-fn add_length(buf: &mut [u8], k: usize, n: u32) -> usize
-    requires { ⌜ k + 24 ≤ length (now buf) ⌝ }
+fn add_length(buf: &mut [u8], k: usize, n: u32, words: &[u32; 192]) -> usize
+    requires { ⌜ (k + 24 ≤ length (now buf)) × Words (now words) ⌝ }
     ensures { λ r. ⌜ Grown (now (buf .entry)) (now (buf .exit)) k (part (gap n)) r ⌝ }
 {
     let a = add_byte(buf, k, first_byte(n));
-    let b = add_in_parens(buf, a, n);
+    let b = add_in_parens(buf, a, n, words);
     let c = add_byte(buf, b, b' ');
     if n == 1 { a } else { c }
 }
 
-fn add_gap(buf: &mut [u8], k: usize, signs: bool, n: u32, words: &[u32; 92]) -> usize
+fn add_gap(buf: &mut [u8], k: usize, signs: bool, n: u32, words: &[u32; 192]) -> usize
     requires { ⌜ (k + 24 ≤ length (now buf)) × Words (now words) ⌝ }
     ensures { λ r. ⌜ Grown (now (buf .entry)) (now (buf .exit)) k (part (gapItem signs n)) r ⌝ }
 {
     if signs {
         return add_word(buf, k, part_word(words, n));
     }
-    add_length(buf, k, n)
+    add_length(buf, k, n, words)
 }
 
 // A piece and the gap behind it.
@@ -80,12 +80,12 @@ pub fn add_piece(
     starred: bool,
     gap: u32,
     signs: bool,
-    words: &[u32; 92],
+    words: &[u32; 192],
 ) -> usize
     requires { ⌜ (k + 45 ≤ length (now buf)) × Words (now words) ⌝ }
     ensures { λ r. ⌜ Grown (now (buf .entry)) (now (buf .exit)) k (doneText signs n starred gap) r ⌝ }
 {
-    let a = add_u64(buf, k, n);
+    let a = add_u64(buf, k, n, words);
     let b = add_star(buf, a, starred);
     add_gap(buf, b, signs, gap, words)
 }
@@ -97,7 +97,7 @@ fn put_pieces(
     gaps: &[u32; 16],
     count: usize,
     signs: bool,
-    words: &[u32; 92],
+    words: &[u32; 192],
     buf: &mut [u8],
     out: &mut [u8],
     from: Left,
@@ -124,7 +124,7 @@ pub fn standard_part(
     limit: u32,
     signs: bool,
     piece: Piece,
-    words: &[u32; 92],
+    words: &[u32; 192],
     buf: &mut [u8],
     out: &mut [u8],
     from: Left,
@@ -164,7 +164,7 @@ pub fn dense_part(
     limit: u32,
     signs: bool,
     piece: Piece,
-    words: &[u32; 92],
+    words: &[u32; 192],
     buf: &mut [u8],
     out: &mut [u8],
     from: Left,

@@ -36,7 +36,7 @@ fn simple_turn(
     last: Piece,
     gap: u32,
     n: u32,
-    words: &[u32; 92],
+    words: &[u32; 192],
 ) -> SimpleTurn
     requires { ⌜ (k + 45 ≤ length (now buf)) × Words (now words) × (1 ≤ gap) × (last .length + (gap + n) < 2 ^ 64) ⌝ }
     ensures { λ r. ⌜ SimpleTurned last gap n (now (buf .entry)) k (now (buf .exit)) r ⌝ }
@@ -82,7 +82,7 @@ fn gap_turn(
     t: PieceTurns,
     gap: u32,
     n: u32,
-    words: &[u32; 92],
+    words: &[u32; 192],
     detailed: &mut [u8],
     partial: &mut [u8],
     simple: &mut [u8],
@@ -126,7 +126,7 @@ fn three_pieces(
     cs: &[u8],
     ns: &[u32],
     first: u32,
-    words: &[u32; 92],
+    words: &[u32; 192],
     detailed: &mut [u8],
     partial: &mut [u8],
     simple: &mut [u8],
@@ -156,7 +156,7 @@ pub fn standard_three(
     cs: &[u8],
     ns: &[u32],
     first: u32,
-    words: &[u32; 92],
+    words: &[u32; 192],
     detailed: &mut [u8],
     partial: &mut [u8],
     simple: &mut [u8],
@@ -169,10 +169,10 @@ pub fn standard_three(
 {
     let t = three_pieces(cs, ns, first, words, detailed, partial, simple);
     let last = t.joined;
-    let bare = add_u64(simple, t.simple, last.length);
+    let bare = add_u64(simple, t.simple, last.length, words);
     Three {
-        first: add_u64(detailed, t.detailed, t.piece),
-        second: add_u64(partial, t.partial, t.piece),
+        first: add_u64(detailed, t.detailed, t.piece, words),
+        second: add_u64(partial, t.partial, t.piece, words),
         third: add_star(simple, bare, last.starred),
     }
 }

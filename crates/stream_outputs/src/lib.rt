@@ -100,7 +100,7 @@ fn put_six(
     cs: &[u8],
     ns: &[u32],
     dense: bool,
-    words: &[u32; 92],
+    words: &[u32; 192],
     buf: &mut [u8],
     out: &mut [u8],
 ) -> [usize; 6]

@@ -10,7 +10,7 @@ fn put_by_three(
     m: &[u32],
     cs: &[u8],
     ns: &[u32],
-    words: &[u32; 92],
+    words: &[u32; 192],
     a: &mut [u8],
     b: &mut [u8],
     c: &mut [u8],
@@ -35,7 +35,7 @@ fn put_by_three(
 }
 
 // The six texts by way of buffers of 1,024 bytes, in which 88 tokens have room.
-pub fn put_short(m: &[u32], cs: &[u8], ns: &[u32], words: &[u32; 92], out: &mut [u8]) -> [usize; 6]
+pub fn put_short(m: &[u32], cs: &[u8], ns: &[u32], words: &[u32; 192], out: &mut [u8]) -> [usize; 6]
     requires { ⌜ UpTo 88 (now m) (now cs) (now ns) (now words) (now out) ⌝ }
     ensures { λ r. ⌜ SixTexts (now (m .entry)) (now (out .entry)) (now (out .exit)) r ⌝ }
 {

@@ -18,10 +18,6 @@ use Rattle.rules.specs.Texts.{mark, star, part, word}
 use Rattle.text_buffer.specs.Put.{byteText}
 use Rattle.text_buffer.specs.Words.{side}
 
-pub byte-text : (b : ℕ) → b ≢ 0 → byteText b ≡ b ∷ []
-byte-text zero h = absurd (h refl)
-byte-text (suc b) h = refl
-
 pub byte-short : (b : ℕ) → length (byteText b) ≤ 1
 byte-short zero = omega arith
 byte-short (suc b) = omega arith

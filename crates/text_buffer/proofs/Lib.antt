@@ -4,5 +4,4 @@ pub mod Added
 pub mod Reached
 pub mod Reading
 pub mod ThreeTexts
-pub mod Stretch
 pub mod Table

@@ -1,56 +1,22 @@
--- The table of words is right: words byte by byte, and the rows one behind the other.
+-- The table of words is right: the numbers and the rows, one behind the other.
 -- Assumes nothing.
-use Prim.Native.Nat.{ℕ, zero, suc, _+_, _-_, _*_, _/_, _%_, _≤_, _<_, min}
-use mathlib.Core.Path.{_≡_, refl, sym, ap, _∙_}
-use mathlib.Core.Logic.{_≢_}
+use Prim.Native.Nat.{ℕ, zero, suc, _+_, _-_, _≤_, _<_, min}
+use mathlib.Core.Path.{_≡_, refl, _∙_}
 use mathlib.Core.Bool.{cond}
-use mathlib.Core.List.{List, [], _∷_, _++_, append-nil}
-use native.Mathlib.Numerals.{add-one}
+use mathlib.Core.List.{List, [], _++_, append-nil}
+use native.Mathlib.Nat.{zero-add}
 use native.Mathlib.Omega.{arith}
 use lib.Dec.{leb}
-use lib.ListN.{length, take, getD}
-use lib.Seq.{length-take-le}
+use lib.ListN.{getD}
 use borrow.Author.Tests.{leb-true, leb-false, le-leb, lt-leb}
+use Rattle.number.specs.Stretch.{Stretch}
+use Rattle.number.specs.Word.{Word, numberWord}
 use Rattle.number.proofs.Split.{split}
+use Rattle.number.proofs.Stretch.{stretch-same, stretch-on}
 use Rattle.rules.specs.Bytes.{bytes}
 use Rattle.rules.specs.Reduced.{Sign, dash, slash, bar, sign}
 use Rattle.rules.specs.Texts.{mark, part, word}
-use Rattle.text_buffer.specs.Put.{byteText}
-use Rattle.text_buffer.specs.Stretch.{Stretch, isWord, classWord, signWord}
-use Rattle.text_buffer.specs.Words.{side, wordText, Word, Words}
-use Rattle.text_buffer.proofs.Bytes.{byte-text}
-use Rattle.text_buffer.proofs.Stretch.{stretch-same, stretch-on}
-
--- how many bytes of a word count
-pub word-count : {xs : List ℕ} {w : ℕ} → Word xs w → w / 16777216 ≡ length xs
-word-count {w = w} h = sym (length-take-le (w / 16777216) _ (h .short)) ∙ ap length (h .text)
-
--- a word before another, by the text of that
-pub word-on : (xs : List ℕ) {ys : List ℕ} {v w : ℕ} → Word ys v → Word (xs ++ wordText v) w → Word (xs ++ ys) w
-word-on xs h g = rw (h .text) at g
-
--- of three bytes, no more than two
-first-two : (l a b c : ℕ) → l ≤ 2 → take l (a ∷ b ∷ []) ≡ take l (a ∷ b ∷ c ∷ [])
-first-two zero a b c s = refl
-first-two (suc zero) a b c s = refl
-first-two (suc (suc zero)) a b c s = refl
-first-two (suc (suc (suc l))) a b c s = absurd (omega arith)
-
--- a byte before a word of up to two
-pub byte-before : (b w : ℕ) → b < 256 → b ≢ 0 → w / 16777216 ≤ 2 → Word (byteText b ++ wordText w) ((w / 16777216 + 1) * 16777216 + w % 65536 * 256 + b)
-byte-before b w l z s =
-    let r = (w / 16777216 + 1) * 16777216 + w % 65536 * 256 + b in
-    let many : r / 16777216 ≡ w / 16777216 + 1 = omega arith in
-    let first : r % 256 ≡ b = omega arith in
-    let low : w % 65536 ≡ w / 256 % 256 * 256 + w % 256 = omega arith in
-    let high : r / 256 ≡ ((w / 16777216 + 1) * 256 + w / 256 % 256) * 256 + w % 256 = omega arith in
-    let second : r / 256 % 256 ≡ w % 256 = rw high (omega arith) in
-    let top : r / 65536 ≡ (w / 16777216 + 1) * 256 + w / 256 % 256 = omega arith in
-    let third : r / 65536 % 256 ≡ w / 256 % 256 = rw top (omega arith) in
-    record {
-      text = rw (byte-text b z, many, first, second, third, add-one) (ap (λ (xs : List ℕ). b ∷ xs) (first-two (w / 16777216) _ _ _ s));
-      short = omega arith;
-    }
+use Rattle.text_buffer.specs.Words.{side, Words, isWord, classWord, signWord}
 
 -- a break's side with no byte is a run's
 side-none : (c : ℕ) → side 0 c ≡ mark c
@@ -88,37 +54,39 @@ row-right : (b : ℕ) {tail from : ℕ} {xs old mid : List ℕ} (new : List ℕ)
     → ((i : ℕ) → i < from + 5 → getD new i 0 ≡ getD mid i 0) → (c : ℕ) → c ≤ 4 → Word (side b c ++ xs) (getD new (from + c) 0)
 row-right b {from = from} new h s kept c l = rw (kept (from + c) (omega arith), ← (h .text)) (s .inside c (omega arith))
 
--- the rows, one behind the other: the words of which they are made, and then the stretches
+-- the numbers and the rows, one behind the other: the words of which the rows are made, and then the stretches
 module _ {space star d s b d′ s′ b′ : ℕ} (hs : Word (bytes " ") space) (ht : Word (bytes "* ") star) (hd : Word (bytes "- ") d) (hl : Word (bytes "/ ") s)
     (hb : Word (bytes "| ") b) (hd′ : Word (bytes "-") d′) (hl′ : Word (bytes "/") s′) (hb′ : Word (bytes " | ") b′)
-    {t₀ t₁ t₂ t₃ t₄ t₅ t₆ t : List ℕ} (s₁ : Stretch (classWord 0 0) 0 5 t₀ t₁) (s₂ : Stretch (classWord 40 0) 5 5 t₁ t₂)
-    (s₃ : Stretch (classWord 41 space) 10 5 t₂ t₃) (s₄ : Stretch (classWord 0 space) 15 5 t₃ t₄) (s₅ : Stretch (classWord 0 star) 20 5 t₄ t₅)
-    (s₆ : Stretch (signWord 32 d s b) 25 34 t₅ t₆) (s₇ : Stretch (signWord 31 d′ s′ b′) 59 33 t₆ t) where
-  kept₅ : (i : ℕ) → i < 25 → getD t i 0 ≡ getD t₅ i 0
+    {old t₀ t₁ t₂ t₃ t₄ t₅ t₆ t : List ℕ} (s₀ : Stretch (numberWord 0) 0 100 old t₀)
+    (s₁ : Stretch (classWord 0 0) 100 5 t₀ t₁) (s₂ : Stretch (classWord 40 0) 105 5 t₁ t₂)
+    (s₃ : Stretch (classWord 41 space) 110 5 t₂ t₃) (s₄ : Stretch (classWord 0 space) 115 5 t₃ t₄) (s₅ : Stretch (classWord 0 star) 120 5 t₄ t₅)
+    (s₆ : Stretch (signWord 32 d s b) 125 34 t₅ t₆) (s₇ : Stretch (signWord 31 d′ s′ b′) 159 33 t₆ t) where
+  kept₅ : (i : ℕ) → i < 125 → getD t i 0 ≡ getD t₅ i 0
   kept₅ i h = s₇ .before i (omega arith) ∙ s₆ .before i h
 
-  kept₄ : (i : ℕ) → i < 20 → getD t i 0 ≡ getD t₄ i 0
+  kept₄ : (i : ℕ) → i < 120 → getD t i 0 ≡ getD t₄ i 0
   kept₄ i h = kept₅ i (omega arith) ∙ s₅ .before i h
 
-  kept₃ : (i : ℕ) → i < 15 → getD t i 0 ≡ getD t₃ i 0
+  kept₃ : (i : ℕ) → i < 115 → getD t i 0 ≡ getD t₃ i 0
   kept₃ i h = kept₄ i (omega arith) ∙ s₄ .before i h
 
-  kept₂ : (i : ℕ) → i < 10 → getD t i 0 ≡ getD t₂ i 0
+  kept₂ : (i : ℕ) → i < 110 → getD t i 0 ≡ getD t₂ i 0
   kept₂ i h = kept₃ i (omega arith) ∙ s₃ .before i h
 
-  kept₁ : (i : ℕ) → i < 5 → getD t i 0 ≡ getD t₁ i 0
+  kept₁ : (i : ℕ) → i < 105 → getD t i 0 ≡ getD t₁ i 0
   kept₁ i h = kept₂ i (omega arith) ∙ s₂ .before i h
 
   pub table-right : Words t
   table-right =
       let none : Word [] 0 = record { text = refl; short = omega arith } in
       record {
+        number = λ n h. rw (kept₁ n (omega arith), s₁ .before n h) (rw zero-add at (s₀ .inside n h));
         marks = λ c h. rw (append-nil, side-none) at (row-right 0 t none s₁ kept₁ c h);
         before = λ c h. rw append-nil at (row-right 40 t none s₂ kept₂ c h);
         behind = row-right 41 t hs s₃ kept₃;
         ended = λ c h. rw side-none at (row-right 0 t hs s₄ kept₄ c h);
         starred = λ c h. rw side-none at (row-right 0 t ht s₅ kept₅ c h);
-        signs = λ g. rw (s₇ .before (25 + min g 33) (omega arith))
+        signs = λ g. rw (s₇ .before (125 + min g 33) (omega arith))
             (sign-right (λ i. word (sign i) ++ bytes " ") 32 d s b (omega arith) hd hl hb g _ (s₆ .inside (min g 33) (omega arith)));
         parts = λ g. sign-right (λ i. part (sign i)) 31 d′ s′ b′ (omega arith) hd′ hl′ hb′ g _ (s₇ .inside (min g 32) (omega arith));
       }

@@ -1,6 +1,5 @@
 pub mod Put
 pub mod Words
-pub mod Stretch
 pub mod Buffer
 pub mod Runs
 pub mod MayFollow

@@ -1,14 +1,10 @@
--- A byte that may be missing, and the promise of a function that measures a text.
+-- The promise of a function that measures a text.
 -- Assumes nothing.
-use Prim.Native.Nat.{ℕ, zero, suc, _≤_}
+use Prim.Native.Nat.{ℕ, _≤_}
 use mathlib.Core.Path.{_≡_}
-use mathlib.Core.List.{List, [], _∷_}
+use mathlib.Core.List.{List}
 use lib.ListN.{length}
-
--- a byte, or nothing if it is 0
-abbrev pub byteText : ℕ → List ℕ
-byteText zero = []
-byteText (suc b) = suc b ∷ []
+pub use Rattle.number.specs.Word.{byteText}
 
 -- r is the length of the text xs, which has at most `most` bytes
 pub record Measured (xs : List ℕ) (most r : ℕ) : Type 0 where

@@ -1,13 +1,12 @@
 // A text grows in a buffer of the caller's own: what stands in it from the next place on is not kept, so that a byte which may be missing is
 // stored without a branch. The buffer is copied to the lent slice when it is nearly full; what is left in it goes on to the next part or text.
 use crate::put::put_bytes;
-ghost use Prim.Native.Nat.{_<_, _+_, _/_, _≤_};
+ghost use Prim.Native.Nat.{_<_, _≤_};
 ghost use mathlib.Core.List.{[]};
 ghost use lib.ListN.{length, take};
 ghost use Rattle.number.specs.Place.{Room, Wrote};
 ghost use Rattle.text_buffer.specs.Put.{byteText};
 ghost use Rattle.text_buffer.specs.Buffer.{Added, Grown, goesOn};
-ghost use Rattle.text_buffer.specs.Words.{wordText};
 
 // The byte `b`, or nothing if it is 0.
 pub fn add_byte(buf: &mut [u8], k: usize, b: u8) -> usize
@@ -16,18 +15,6 @@ pub fn add_byte(buf: &mut [u8], k: usize, b: u8) -> usize
 {
     buf[k] = b;
     if b == 0 { k } else { k + 1 }
-}
-
-// The text of a word. All four bytes are stored, so that it is one store.
-pub fn add_word(buf: &mut [u8], k: usize, w: u32) -> usize
-    requires { ⌜ (k + 4 ≤ length (now buf)) × (w / 16777216 ≤ 3) ⌝ }
-    ensures { λ r. ⌜ Grown (now (buf .entry)) (now (buf .exit)) k (wordText w) r ⌝ }
-{
-    buf[k] = (w % 256) as u8;
-    buf[k + 1] = (w / 256 % 256) as u8;
-    buf[k + 2] = (w / 65536 % 256) as u8;
-    buf[k + 3] = (w / 16777216) as u8;
-    k + (w / 16777216) as usize
 }
 
 // The first k bytes of the buffer, at a place of the lent slice; the next place is answered.

@@ -12,27 +12,27 @@ ghost use Rattle.text_buffer.specs.Buffer.{Grown};
 ghost use Rattle.text_buffer.specs.Words.{Word, Words};
 
 // By its length, in parentheses.
-pub fn add_in_parens(buf: &mut [u8], k: usize, n: u32) -> usize
-    requires { ⌜ k + 22 ≤ length (now buf) ⌝ }
+pub fn add_in_parens(buf: &mut [u8], k: usize, n: u32, words: &[u32; 192]) -> usize
+    requires { ⌜ (k + 22 ≤ length (now buf)) × Words (now words) ⌝ }
     ensures { λ r. ⌜ Grown (now (buf .entry)) (now (buf .exit)) k (word (gap n)) r ⌝ }
 {
     let a = add_byte(buf, k, b'(');
-    let b = add_u64(buf, a, n as u64);
+    let b = add_u64(buf, a, n as u64, words);
     add_byte(buf, b, b')')
 }
 
 // The sign of an SN text, and a space.
-pub fn sign_word(words: &[u32; 92], n: u32) -> u32
+pub fn sign_word(words: &[u32; 192], n: u32) -> u32
     requires { ⌜ Words (now words) ⌝ }
     ensures { λ r. ⌜ Word (word (signOf 32 n) ++ bytes " ") r ⌝ }
 {
-    word_at(words, 25, 33, n)
+    word_at(words, 125, 33, n)
 }
 
 // The sign of a standard text, with what stands around it.
-pub fn part_word(words: &[u32; 92], n: u32) -> u32
+pub fn part_word(words: &[u32; 192], n: u32) -> u32
     requires { ⌜ Words (now words) ⌝ }
     ensures { λ r. ⌜ Word (part (signOf 31 n)) r ⌝ }
 {
-    word_at(words, 59, 32, n)
+    word_at(words, 159, 32, n)
 }

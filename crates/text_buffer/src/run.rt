@@ -1,10 +1,10 @@
 // One run: its length, by class bare or in marks, and a star; and what is known behind a part of a text.
 use crate::buffer::Left;
-use crate::buffer::add_word;
 use crate::buffer::put_buffer;
 use crate::words::class_word;
 use crate::words::end_word;
 use number::buffer::add_u64;
+use number::buffer::add_word;
 use number::digit_count;
 ghost use Prim.Native.Nat.{_+_, _≤_, _<_};
 ghost use mathlib.Core.Path.{_≡_};
@@ -59,17 +59,17 @@ pub fn add_star(buf: &mut [u8], k: usize, starred: bool) -> usize
 }
 
 // A run and a space, in the buffer.
-pub fn add_ended(buf: &mut [u8], k: usize, run: Run, words: &[u32; 92]) -> usize
+pub fn add_ended(buf: &mut [u8], k: usize, run: Run, words: &[u32; 192]) -> usize
     requires { ⌜ (k + 26 ≤ length (now buf)) × Words (now words) × (run .class ≤ 4) ⌝ }
     ensures { λ r. ⌜ Grown (now (buf .entry)) (now (buf .exit)) k (runText run ++ bytes " ") r ⌝ }
 {
-    let a = add_word(buf, k, class_word(words, 0, run.class));
-    let b = add_u64(buf, a, run.length);
+    let a = add_word(buf, k, class_word(words, 100, run.class));
+    let b = add_u64(buf, a, run.length, words);
     add_word(buf, b, end_word(words, run.class, run.starred))
 }
 
 // A run alone, in the buffer.
-pub fn add_run(buf: &mut [u8], k: usize, run: Run, words: &[u32; 92]) -> usize
+pub fn add_run(buf: &mut [u8], k: usize, run: Run, words: &[u32; 192]) -> usize
     requires { ⌜ (k + 26 ≤ length (now buf)) × Words (now words) × (run .class ≤ 4) ⌝ }
     ensures { λ r. ⌜ Grown (now (buf .entry)) (now (buf .exit)) k (runText run) r ⌝ }
 {
@@ -77,7 +77,7 @@ pub fn add_run(buf: &mut [u8], k: usize, run: Run, words: &[u32; 92]) -> usize
 }
 
 // A run at a place of the lent slice.
-pub fn put_run(out: &mut [u8], at: usize, buf: &mut [u8], run: Run, words: &[u32; 92]) -> usize
+pub fn put_run(out: &mut [u8], at: usize, buf: &mut [u8], run: Run, words: &[u32; 192]) -> usize
     requires { ⌜ (26 ≤ length (now buf)) × Words (now words) × (run .class ≤ 4) × Room (now out) at (runText run) ⌝ }
     ensures { λ r. ⌜ Wrote (now (out .entry)) (now (out .exit)) at (runText run) r ⌝ }
 {

@@ -1,15 +1,16 @@
-// Texts of up to three bytes in a table, so that one is written by one look-up: a word has the first byte lowest, then the second and the third, then
-// how many count.
+// Texts of up to three bytes in a table of words, so that one is written by one look-up.
+use number::words::set_numbers;
+use number::words::word_before;
 ghost use mathlib.Core.Path.{_≡_};
 ghost use Prim.Native.Nat.{_+_, _/_, _≤_, _<_, min};
 ghost use lib.ListN.{getD, length};
 ghost use mathlib.Core.Bool.{cond};
 ghost use mathlib.Core.List.{_++_};
+ghost use Rattle.number.specs.Stretch.{Stretch};
 ghost use Rattle.rules.specs.Bytes.{bytes};
 ghost use Rattle.rules.specs.Texts.{mark, star};
 ghost use Rattle.text_buffer.specs.Put.{byteText};
-ghost use Rattle.text_buffer.specs.Stretch.{Stretch, isWord, classWord, signWord};
-ghost use Rattle.text_buffer.specs.Words.{Word, Words, side, wordText};
+ghost use Rattle.text_buffer.specs.Words.{Word, Words, side, isWord, classWord, signWord};
 
 // The byte on a side of the length of a token of `class`: `b` of a break, a run's mark, or 0 for nothing.
 fn side_byte(b: u8, class: usize) -> u8
@@ -22,17 +23,6 @@ fn side_byte(b: u8, class: usize) -> u8
         3 => b'\\',
         _ => b'=',
     }
-}
-
-// The word of the byte `b`, or of nothing if it is 0, and then of the text of `w`.
-fn word_before(b: u8, w: u32) -> u32
-    requires { ⌜ w / 16777216 ≤ 2 ⌝ }
-    ensures { λ r. ⌜ Word (byteText b ++ wordText w) r ⌝ }
-{
-    if b == 0 {
-        return w;
-    }
-    (w / 16777216 + 1) * 16777216 + w % 65536 * 256 + b as u32
 }
 
 // The word `w` at n places.
@@ -69,9 +59,9 @@ fn set_signs(words: &mut [u32], row: usize, most: usize, dash: u32, slash: u32, 
     set_same(words, row + most + 1, 1, bar);
 }
 
-// The table, filled by whoever writes texts, once, and lent. By class: the marks; what stands before and what stands behind a token's length; what
+// The table, filled by whoever writes texts, once, and lent. The numbers below 100. By class: the marks; what stands before and what stands behind a token's length; what
 // stands behind a run's length, without and with a star. By length: the signs of SN and of standard texts.
-pub fn words() -> [u32; 92]
+pub fn words() -> [u32; 192]
     ensures { λ r. ⌜ Words r ⌝ }
 {
     let space = word_before(b' ', 0);
@@ -79,16 +69,17 @@ pub fn words() -> [u32; 92]
     let dash = word_before(b'-', space);
     let slash = word_before(b'/', space);
     let bar = word_before(b'|', space);
-    let mut table = [0u32; 92];
-    set_row(&mut table, 0, 0, 0);
-    set_row(&mut table, 5, b'(', 0);
-    set_row(&mut table, 10, b')', space);
-    set_row(&mut table, 15, 0, space);
-    set_row(&mut table, 20, 0, star);
-    set_signs(&mut table, 25, 32, dash, slash, bar);
+    let mut table = [0u32; 192];
+    set_numbers(&mut table);
+    set_row(&mut table, 100, 0, 0);
+    set_row(&mut table, 105, b'(', 0);
+    set_row(&mut table, 110, b')', space);
+    set_row(&mut table, 115, 0, space);
+    set_row(&mut table, 120, 0, star);
+    set_signs(&mut table, 125, 32, dash, slash, bar);
     set_signs(
         &mut table,
-        59,
+        159,
         31,
         word_before(b'-', 0),
         word_before(b'/', 0),
@@ -98,8 +89,8 @@ pub fn words() -> [u32; 92]
 }
 
 // Word n of the row that begins at `row`; from `last` on, its last.
-pub fn word_at(words: &[u32; 92], row: usize, last: u32, n: u32) -> u32
-    requires { ⌜ row + last < 92 ⌝ }
+pub fn word_at(words: &[u32; 192], row: usize, last: u32, n: u32) -> u32
+    requires { ⌜ row + last < 192 ⌝ }
     ensures { λ r. ⌜ r ≡ getD (now (words .entry)) (row + min n last) 0 ⌝ }
 {
     let i = if n < last { n } else { last };
@@ -107,8 +98,8 @@ pub fn word_at(words: &[u32; 92], row: usize, last: u32, n: u32) -> u32
 }
 
 // The word for `class` in a row of five.
-pub fn class_word(words: &[u32; 92], row: usize, class: u8) -> u32
-    requires { ⌜ (row ≤ 20) × (class ≤ 4) ⌝ }
+pub fn class_word(words: &[u32; 192], row: usize, class: u8) -> u32
+    requires { ⌜ (row ≤ 120) × (class ≤ 4) ⌝ }
     ensures { λ r. ⌜ r ≡ getD (now (words .entry)) (row + class) 0 ⌝ }
 {
     words[row + class as usize]
@@ -116,13 +107,13 @@ pub fn class_word(words: &[u32; 92], row: usize, class: u8) -> u32
 
 // Where the row begins of what stands behind a run's length.
 fn end_row(starred: bool) -> usize
-    ensures { λ r. ⌜ r ≡ cond starred 20 15 ⌝ }
+    ensures { λ r. ⌜ r ≡ cond starred 120 115 ⌝ }
 {
-    if starred { 20 } else { 15 }
+    if starred { 120 } else { 115 }
 }
 
 // What stands behind a run's length, and a space.
-pub fn end_word(words: &[u32; 92], class: u8, starred: bool) -> u32
+pub fn end_word(words: &[u32; 192], class: u8, starred: bool) -> u32
     requires { ⌜ Words (now words) × (class ≤ 4) ⌝ }
     ensures { λ r. ⌜ Word (mark class ++ (star starred ++ bytes " ")) r ⌝ }
 {

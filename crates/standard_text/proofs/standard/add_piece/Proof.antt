@@ -13,13 +13,13 @@ add-u64-requires c κs = search needs
 
 add-star-requires : tie.Need-add-star-requires
 add-star-requires c κs =
-    let s = c .before .before .before .before .before .before in
+    let s = c .before .before .before .before .before .before .before in
     let a = c .before .before .before .add-u64 .ensures in
     omega (arith, s .pre .0, a .next, a .long, at-most 20 (s .args .n) (omega arith) (omega arith))
 
 add-gap-requires : tie.Need-add-gap-requires
 add-gap-requires c κs =
-    let s = c .before .before .before .before .before .before .before .before .before .before in
+    let s = c .before .before .before .before .before .before .before .before .before .before .before in
     let a = c .before .before .before .before .before .before .before .add-u64 .ensures in
     let b = c .before .before .before .add-star .ensures in (
       omega (arith, s .pre .0, a .next, a .long, at-most 20 (s .args .n) (omega arith) (omega arith), b .next, b .long, star-short (s .args .starred)),

@@ -15,19 +15,23 @@ add-u64-requires : tie.Need-add-u64-requires
 add-u64-requires c κs = search needs
 
 add-u64-requires-2 : tie.Need-add-u64-requires-2
-add-u64-requires-2 c κs = search needs
+add-u64-requires-2 c κs =
+    let s = c .before .before .before .before .before in
+    let t = s .before .before .before .before .before .before .before .before .before .three-pieces in
+    (omega (arith, t .ensures .detailed .room), omega arith, s .before .before .before .before .before .before .before .before .before .before .before .before .before .before .before .before .before .before .pre .words .number)
 
 add-u64-requires-3 : tie.Need-add-u64-requires-3
 add-u64-requires-3 c κs =
-    let t = c .before .before .before .before .before .before .before .before .before .before .before .before .before .before .before .before .three-pieces in
-    omega (arith, t .ensures .partial .room)
+    let s = c .before .before .before .before .before .before .before .before .before .before in
+    let t = s .before .before .before .before .before .before .before .before .before .three-pieces in
+    (omega (arith, t .ensures .partial .room), omega arith, s .before .before .before .before .before .before .before .before .before .before .before .before .before .before .before .before .before .before .pre .words .number)
 
 add-star-requires : tie.Need-add-star-requires
 add-star-requires c κs =
-    let s = c .before .before .before .before .before .before .before .before .before .before in
+    let s = c .before .before .before .before .before .before .before .before .before .before .before .before .before in
     let t = s .before .before .before .before .before .before .before .before .before .before .three-pieces in
     let o = t .ensures .simple in
-    let a = c .before .before .before .before .before .before .before .before .before .before .before .add-u64 .ensures in
+    let a = s .add-u64 .ensures in
     omega (arith, o .room, a .next, a .long, at-most 20 (t .result .joined .length) (omega arith) (omega arith))
 
 same-length : tie.Need-same-length
@@ -41,14 +45,14 @@ same-length-3 c = search needs
 
 returns : tie.Need-returns
 returns c =
-    let s = c .before .before .before .before .before .before .before .before .before .before .before in
-    let e = s .before .before .before .before .before .before .before .before .before .before .before .before .three-pieces .ensures in
+    let third = c .before .before .before .before .before .before in
+    let second = third .before .before .before .before .before in
+    let first = second .before .before .before .before .before in
+    let e = first .before .before .before .before .before .before .before .before .before .before .three-pieces .ensures in
     record {
-      first = opened-ends (e .detailed) (c .before .before .before .before .before .before .before .before .before .before .add-u642 .ensures) grown-none;
-      second = opened-ends (e .partial) (c .before .before .before .before .before .before .add-u643 .ensures) grown-none;
-      third = opened-ends (e .simple)
-          (c .before .before .before .before .before .before .before .before .before .before .before .before .before .before .add-u64 .ensures)
-          (c .before .before .add-star .ensures);
+      first = opened-ends (e .detailed) (second .add-u642 .ensures) grown-none;
+      second = opened-ends (e .partial) (third .add-u643 .ensures) grown-none;
+      third = opened-ends (e .simple) (first .add-u64 .ensures) (c .before .before .add-star .ensures);
     }
 
 pub standard-three-spec : {M : Type 1} → statement M

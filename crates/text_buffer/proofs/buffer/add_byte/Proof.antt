@@ -3,7 +3,7 @@
 use mathlib.Core.List.{[], _∷_}
 use native.Mathlib.Omega.{arith}
 use borrow.Author.Needs.{needs}
-use Rattle.text_buffer.proofs.Bytes.{byte-text}
+use Rattle.number.proofs.Word.{byte-text}
 use Rattle.text_buffer.proofs.Growing.{stored, dropped}
 use Rattle.text_buffer.proofs.buffer.add_byte.Statement.{statement}
 use Rattle.text_buffer.proofs.buffer.add_byte.Tie as tie

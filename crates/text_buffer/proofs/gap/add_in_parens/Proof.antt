@@ -16,18 +16,22 @@ add-u64-requires c κs = search needs
 
 add-byte-requires-2 : tie.Need-add-byte-requires-2
 add-byte-requires-2 c κs =
-    let s = c .before .before .before .before .before .before .before .before .before .before in
-    let a = c .before .before .before .before .before .before .before .add-byte .ensures in
-    let b = c .before .before .before .add-u64 .ensures in
-    omega (arith, s .pre, at-most 20 (s .args .n) (omega arith) (omega arith), a .next, a .long, b .next, b .long)
+    let number = c .before .before .before in
+    let first = number .before .before .before .before .before in
+    let s = first .before .before .before in
+    let a = first .add-byte .ensures in
+    let b = number .add-u64 .ensures in
+    omega (arith, s .pre .0, at-most 20 (s .args .n) (omega arith) (omega arith), a .next, a .long, b .next, b .long)
 
 same-length : tie.Need-same-length
 same-length c = search needs
 
 returns : tie.Need-returns
 returns c =
-    let g = grown _ (41 ∷ []) (c .before .before .before .before .before .before .add-u64 .ensures) (c .before .before .add-byte2 .ensures) in
-    grown (40 ∷ []) _ (c .before .before .before .before .before .before .before .before .before .before .add-byte .ensures) g
+    let second = c .before .before in
+    let number = second .before .before .before .before in
+    let first = number .before .before .before .before .before in
+    grown (40 ∷ []) _ (first .add-byte .ensures) (grown _ (41 ∷ []) (number .add-u64 .ensures) (second .add-byte2 .ensures))
 
 pub add-in-parens-spec : {M : Type 1} → statement M
 add-in-parens-spec =

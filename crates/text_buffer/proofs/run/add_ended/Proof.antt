@@ -26,41 +26,36 @@ add-word-requires : tie.Need-add-word-requires
 add-word-requires c κs = (omega (arith, c .before .before .before .pre .0), mark-word c .short)
 
 add-u64-requires : tie.Need-add-u64-requires
-add-u64-requires c κs = let s = c .before .before .before .before .before .before .before in let a = front (c .before .before .before) in
-    omega (arith, s .pre .0, a .next, a .long, mark-short (s .args .run .class))
+add-u64-requires c κs =
+    let marked = c .before .before .before .before in
+    let s = marked .before .before .before .before in
+    let a = front marked in
+    (omega (arith, s .pre .0, a .next, a .long, mark-short (s .args .run .class)), omega arith, s .pre .1 .number)
 
 end-word-requires : tie.Need-end-word-requires
 end-word-requires c κs = search needs
 
 add-word-requires-2 : tie.Need-add-word-requires-2
 add-word-requires-2 c κs =
-    let s = c .before .before .before .before .before .before .before .before .before .before .before .before in
-    let a = front (c .before .before .before .before .before .before .before .before) in
-    let b = c .before .before .before .before .add-u64 .ensures in (
-      omega (
-        arith,
-        s .pre .0,
-        a .next,
-        a .long,
-        mark-short (s .args .run .class),
-        b .next,
-        b .long,
-        at-most 20 (s .args .run .length) (omega arith)
-            (omega arith),
-      ),
-      c .end-word .ensures .short,
-    )
+    let number = c .before .before .before .before in
+    let marked = number .before .before .before .before .before in
+    let s = marked .before .before .before .before in
+    let a = front marked in
+    let b = number .add-u64 .ensures in
+    let long = at-most 20 (s .args .run .length) (omega arith) (omega arith) in
+    (omega (arith, s .pre .0, a .next, a .long, mark-short (s .args .run .class), b .next, b .long), c .end-word .ensures .short)
 
 same-length : tie.Need-same-length
 same-length c = search needs
 
 returns : tie.Need-returns
 returns c =
-    let r = c .before .before .before .before .before .before .before .before .before .before .before .before .before .before .before .args .run in
-    let e = worded (c .before .before .before .end-word .ensures) (c .before .before .add-word2 .ensures) in
-    rw (ended-run (r .class) (r .length) (r .starred)) at
-    (grown _ _ (front (c .before .before .before .before .before .before .before .before .before .before .before))
-    (grown _ _ (c .before .before .before .before .before .before .before .add-u64 .ensures) e))
+    let ends = c .before .before in
+    let number = ends .before .before .before .before .before in
+    let marked = number .before .before .before .before .before in
+    let r = marked .before .before .before .before .args .run in
+    let e = worded (ends .before .end-word .ensures) (ends .add-word2 .ensures) in
+    rw (ended-run (r .class) (r .length) (r .starred)) at (grown _ _ (front marked) (grown _ _ (number .add-u64 .ensures) e))
 
 pub add-ended-spec : {M : Type 1} → statement M
 add-ended-spec =

@@ -14,11 +14,11 @@ use Rattle.text_buffer.proofs.words.end_word.Statement.{statement}
 use Rattle.text_buffer.proofs.words.end_word.Tie as tie
 
 -- the row of a star is right
-row-right : {t : List ℕ} → Words t → (c : ℕ) (s : Bool) → c ≤ 4 → Word (mark c ++ (star s ++ bytes " ")) (getD t (cond s 20 15 + c) 0)
+row-right : {t : List ℕ} → Words t → (c : ℕ) (s : Bool) → c ≤ 4 → Word (mark c ++ (star s ++ bytes " ")) (getD t (cond s 120 115 + c) 0)
 row-right w c true h = w .starred c h
 row-right w c false h = w .ended c h
 
-row-inside : (s : Bool) (r : ℕ) → r ≡ cond s 20 15 → r ≤ 20
+row-inside : (s : Bool) (r : ℕ) → r ≡ cond s 120 115 → r ≤ 120
 row-inside true r e = omega arith
 row-inside false r e = omega arith
 

@@ -4,8 +4,9 @@ use Prim.Native.Nat.{_-_, _≤_}
 use mathlib.Core.Path.{_≡_}
 use native.Mathlib.Omega.{arith}
 use borrow.Author.Needs.{needs}
-use Rattle.text_buffer.specs.Stretch.{Stretch, classWord}
-use Rattle.text_buffer.proofs.Stretch.{stretch-none, stretch-more}
+use Rattle.number.specs.Stretch.{Stretch}
+use Rattle.text_buffer.specs.Words.{classWord}
+use Rattle.number.proofs.Stretch.{stretch-none, stretch-more}
 use Rattle.text_buffer.proofs.words.set_row.Statement.{statement}
 use Rattle.text_buffer.proofs.words.set_row.Tie as tie
 

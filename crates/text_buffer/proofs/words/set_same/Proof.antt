@@ -3,8 +3,9 @@
 use Prim.Native.Nat.{_-_, _≤_}
 use mathlib.Core.Path.{_≡_, refl}
 use native.Mathlib.Omega.{arith}
-use Rattle.text_buffer.specs.Stretch.{Stretch, isWord}
-use Rattle.text_buffer.proofs.Stretch.{stretch-none, stretch-more}
+use Rattle.number.specs.Stretch.{Stretch}
+use Rattle.text_buffer.specs.Words.{isWord}
+use Rattle.number.proofs.Stretch.{stretch-none, stretch-more}
 use Rattle.text_buffer.proofs.words.set_same.Statement.{statement}
 use Rattle.text_buffer.proofs.words.set_same.Tie as tie
 

@@ -6,7 +6,8 @@ use native.Mathlib.Omega.{arith}
 use borrow.Author.Needs.{needs}
 use Rattle.rules.specs.Bytes.{bytes}
 use Rattle.text_buffer.specs.Words.{Word}
-use Rattle.text_buffer.proofs.Table.{word-count, word-on, table-right}
+use Rattle.number.proofs.Word.{word-count, word-on}
+use Rattle.text_buffer.proofs.Table.{table-right}
 use Rattle.text_buffer.proofs.words.words.Statement.{statement}
 use Rattle.text_buffer.proofs.words.words.Tie as tie
 
@@ -35,6 +36,12 @@ word-before-requires-4 c κs = omega (arith, word-count (space (c .before .befor
 word-before-requires-5 : tie.Need-word-before-requires-5
 word-before-requires-5 c κs = omega (arith, word-count (space (c .before .before .before)))
 
+slice-aggregate-set-numbers : tie.Need-slice-aggregate-set-numbers
+slice-aggregate-set-numbers c = search needs
+
+set-numbers-requires : tie.Need-set-numbers-requires
+set-numbers-requires c κs = search needs
+
 slice-aggregate-set-row : tie.Need-slice-aggregate-set-row
 slice-aggregate-set-row c = search needs
 
@@ -52,7 +59,7 @@ slice-aggregate-set-row-3 c = search needs
 
 set-row-requires-3 : tie.Need-set-row-requires-3
 set-row-requires-3 c κs =
-    let w = c .before .before .before .before .before .before .before .before .before .before .before in
+    let w = c .before .before .before .before .before .before .before .before .before .before .before .before .before .before in
     (omega arith, omega (arith, word-count (space w)))
 
 slice-aggregate-set-row-4 : tie.Need-slice-aggregate-set-row-4
@@ -60,7 +67,7 @@ slice-aggregate-set-row-4 c = search needs
 
 set-row-requires-4 : tie.Need-set-row-requires-4
 set-row-requires-4 c κs =
-    let w = c .before .before .before .before .before .before .before .before .before .before .before .before .before .before in
+    let w = c .before .before .before .before .before .before .before .before .before .before .before .before .before .before .before .before .before in
     (omega arith, omega (arith, word-count (space w)))
 
 slice-aggregate-set-row-5 : tie.Need-slice-aggregate-set-row-5
@@ -68,7 +75,7 @@ slice-aggregate-set-row-5 c = search needs
 
 set-row-requires-5 : tie.Need-set-row-requires-5
 set-row-requires-5 c κs =
-    let w = c .before .before .before .before .before .before .before .before .before .before .before .before .before .before .before .before in
+    let w = c .before .before .before .before .before .before .before .before .before .before .before .before .before .before .before .before .before .before .before in
     (omega arith, omega (arith, word-count (star w)))
 
 slice-aggregate-set-signs : tie.Need-slice-aggregate-set-signs
@@ -88,8 +95,8 @@ word-before-requires-7 c κs = search needs
 
 word-before-requires-8 : tie.Need-word-before-requires-8
 word-before-requires-8 c κs =
-    let w = c .before .before .before .before .before .before .before .before .before .before in
-    omega (arith, word-count (bar (w .before .before .before .before .before .before .before .before .before .before .before)))
+    let w = c .before .before .before .before .before .before .before .before .before .before .before .before in
+    omega (arith, word-count (bar (w .before .before .before .before .before .before .before .before .before .before .before .before)))
 
 set-signs-requires-2 : tie.Need-set-signs-requires-2
 set-signs-requires-2 c κs = search needs
@@ -103,13 +110,15 @@ returns c =
     let third = fourth .before .before .before in
     let second = third .before .before .before in
     let first = second .before .before .before in
-    let bars = first .before .before in
+    let numbers = first .before .before .before in
+    let bars = numbers .before .before in
     let spaced = bars .before .before .before .before in
     table-right (space spaced) (star (bars .before .before .before)) (word-on (bytes "-") (space spaced) (bars .before .before .word-before3 .ensures))
     (word-on (bytes "/") (space spaced) (bars .before .word-before4 .ensures)) (bar bars)
     (ends .before .before .before .word-before6 .ensures) (ends .before .before .word-before7 .ensures)
-    (word-on (bytes " ") (bar bars) (ends .before .word-before8 .ensures)) (first .set-row .ensures) (second .set-row2 .ensures)
-    (third .set-row3 .ensures) (fourth .set-row4 .ensures) (fifth .set-row5 .ensures) (signs .set-signs .ensures) (ends .set-signs2 .ensures)
+    (word-on (bytes " ") (bar bars) (ends .before .word-before8 .ensures)) (numbers .set-numbers .ensures) (first .set-row .ensures)
+    (second .set-row2 .ensures) (third .set-row3 .ensures) (fourth .set-row4 .ensures) (fifth .set-row5 .ensures) (signs .set-signs .ensures)
+    (ends .set-signs2 .ensures)
 
 pub words-spec : {M : Type 1} → statement M
 words-spec =
@@ -120,6 +129,8 @@ words-spec =
     word-before-requires-3
     word-before-requires-4
     word-before-requires-5
+    slice-aggregate-set-numbers
+    set-numbers-requires
     slice-aggregate-set-row
     set-row-requires
     slice-aggregate-set-row-2

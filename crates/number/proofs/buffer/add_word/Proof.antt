@@ -1,12 +1,12 @@
--- `text_buffer::buffer::add_word` meets its contract.
+-- `number::buffer::add_word` meets its contract.
 -- Assumes nothing.
 use Prim.Native.Nat.{_/_, _%_}
 use native.Mathlib.Omega.{arith}
 use lib.ListN.{length-set}
-use Rattle.text_buffer.proofs.Growing.{stored-first}
+use Rattle.number.proofs.Word.{stored-first}
 use borrow.Author.Needs.{needs}
-use Rattle.text_buffer.proofs.buffer.add_word.Statement.{statement}
-use Rattle.text_buffer.proofs.buffer.add_word.Tie as tie
+use Rattle.number.proofs.buffer.add_word.Statement.{statement}
+use Rattle.number.proofs.buffer.add_word.Tie as tie
 
 cast-buf : tie.Need-cast-buf
 cast-buf c = search needs

@@ -1,11 +1,11 @@
--- `text_buffer::words::word_before` meets its contract.
+-- `number::words::word_before` meets its contract.
 -- Assumes nothing.
 use mathlib.Core.Path.{refl}
 use native.Mathlib.Omega.{arith}
 use borrow.Author.Needs.{needs}
-use Rattle.text_buffer.proofs.Table.{byte-before}
-use Rattle.text_buffer.proofs.words.word_before.Statement.{statement}
-use Rattle.text_buffer.proofs.words.word_before.Tie as tie
+use Rattle.number.proofs.Word.{byte-before}
+use Rattle.number.proofs.words.word_before.Statement.{statement}
+use Rattle.number.proofs.words.word_before.Tie as tie
 
 returns : tie.Need-returns
 returns c = rw (c .if1 .taken) (record { text = refl; short = omega arith })

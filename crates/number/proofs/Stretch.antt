@@ -9,8 +9,8 @@ use lib.ListN.{length, set, length-set}
 use lib.Seq.{getD-set-same, getD-set-other}
 use borrow.Author.Count.{below-none, below-more}
 use borrow.Author.Tests.{ltb-true, ltb-false}
 use Rattle.number.proofs.Split.{split}
-use Rattle.text_buffer.specs.Stretch.{Stretch}
+use Rattle.number.specs.Stretch.{Stretch}
 
 module _ {Holds : ℕ → ℕ → Type 0} {from : ℕ} {old : List ℕ} where
   pub stretch-none : Stretch Holds from 0 old old
