@@ -7,4 +7,4 @@ pub mod Push
 pub mod Place
 pub mod Grown
 pub mod Word
-pub mod Stretch
+pub mod PlacesSet

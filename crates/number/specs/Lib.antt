@@ -3,5 +3,5 @@ pub mod Questions
 pub mod Place
 pub mod Grown
 pub mod Word
-pub mod Stretch
+pub mod PlacesSet
 pub mod Pushed

@@ -6,7 +6,7 @@ ghost use mathlib.Core.Bool.{cond};
 ghost use mathlib.Core.List.{_++_};
 ghost use lib.Dec.{eqb};
 ghost use lib.ListN.{length};
-ghost use Rattle.number.specs.Stretch.{Stretch};
+ghost use Rattle.number.specs.PlacesSet.{PlacesSet};
 ghost use Rattle.number.specs.Word.{byteText, wordText, Word, numberWord};
 
 // The word of the byte `b`, or of nothing if it is 0, and then of the text of `w`.
@@ -34,7 +34,7 @@ fn first_byte(tens: usize) -> u8
 // Ten numbers from 10 × `tens` on, each at its own place.
 fn set_ten(words: &mut [u32], tens: usize)
     requires { ⌜ (tens ≤ 9) × (10 * tens + 10 ≤ length (now words)) ⌝ }
-    ensures { λ _. ⌜ Stretch (numberWord (10 * tens)) (10 * tens) 10 (now (words .entry)) (now (words .exit)) ⌝ }
+    ensures { λ _. ⌜ PlacesSet (numberWord (10 * tens)) (10 * tens) 10 (now (words .entry)) (now (words .exit)) ⌝ }
 {
     let first = first_byte(tens);
     let mut last: usize = 0;
@@ -47,7 +47,7 @@ fn set_ten(words: &mut [u32], tens: usize)
 // The numbers below 100, each at its own place.
 pub fn set_numbers(words: &mut [u32])
     requires { ⌜ 100 ≤ length (now words) ⌝ }
-    ensures { λ _. ⌜ Stretch (numberWord 0) 0 100 (now (words .entry)) (now (words .exit)) ⌝ }
+    ensures { λ _. ⌜ PlacesSet (numberWord 0) 0 100 (now (words .entry)) (now (words .exit)) ⌝ }
 {
     let mut tens: usize = 0;
     while tens < 10 {

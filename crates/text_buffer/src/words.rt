@@ -6,7 +6,7 @@ ghost use Prim.Native.Nat.{_+_, _/_, _≤_, _<_, min};
 ghost use lib.ListN.{getD, length};
 ghost use mathlib.Core.Bool.{cond};
 ghost use mathlib.Core.List.{_++_};
-ghost use Rattle.number.specs.Stretch.{Stretch};
+ghost use Rattle.number.specs.PlacesSet.{PlacesSet};
 ghost use Rattle.rules.specs.Bytes.{bytes};
 ghost use Rattle.rules.specs.Texts.{mark, star};
 ghost use Rattle.text_buffer.specs.Put.{byteText};
@@ -28,7 +28,7 @@ fn side_byte(b: u8, class: usize) -> u8
 // The word `w` at n places.
 fn set_same(words: &mut [u32], from: usize, n: usize, w: u32)
     requires { ⌜ from + n ≤ length (now words) ⌝ }
-    ensures { λ _. ⌜ Stretch (isWord w) from n (now (words .entry)) (now (words .exit)) ⌝ }
+    ensures { λ _. ⌜ PlacesSet (isWord w) from n (now (words .entry)) (now (words .exit)) ⌝ }
 {
     let mut i: usize = 0;
     while i < n {
@@ -40,7 +40,7 @@ fn set_same(words: &mut [u32], from: usize, n: usize, w: u32)
 // A row by class: what stands on a side of a token's length, and then the text of `tail`.
 fn set_row(words: &mut [u32], row: usize, b: u8, tail: u32)
     requires { ⌜ (row + 5 ≤ length (now words)) × (tail / 16777216 ≤ 2) ⌝ }
-    ensures { λ _. ⌜ Stretch (classWord b tail) row 5 (now (words .entry)) (now (words .exit)) ⌝ }
+    ensures { λ _. ⌜ PlacesSet (classWord b tail) row 5 (now (words .entry)) (now (words .exit)) ⌝ }
 {
     let mut class: usize = 0;
     while class < 5 {
@@ -52,7 +52,7 @@ fn set_row(words: &mut [u32], row: usize, b: u8, tail: u32)
 // The signs of gaps by length: up to 4, up to `most`, and more.
 fn set_signs(words: &mut [u32], row: usize, most: usize, dash: u32, slash: u32, bar: u32)
     requires { ⌜ (4 ≤ most) × (row + most + 2 ≤ length (now words)) ⌝ }
-    ensures { λ _. ⌜ Stretch (signWord most dash slash bar) row (most + 2) (now (words .entry)) (now (words .exit)) ⌝ }
+    ensures { λ _. ⌜ PlacesSet (signWord most dash slash bar) row (most + 2) (now (words .entry)) (now (words .exit)) ⌝ }
 {
     set_same(words, row, 5, dash);
     set_same(words, row + 5, most - 4, slash);

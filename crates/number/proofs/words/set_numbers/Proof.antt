@@ -5,28 +5,28 @@ use mathlib.Core.Path.{_≡_}
 use mathlib.Core.List.{List}
 use native.Mathlib.Nat.{zero-add}
 use native.Mathlib.Omega.{arith}
-use Rattle.number.specs.Stretch.{Stretch}
+use Rattle.number.specs.PlacesSet.{PlacesSet}
 use Rattle.number.specs.Word.{numberWord}
-use Rattle.number.proofs.Stretch.{stretch-none, stretch-on}
+use Rattle.number.proofs.PlacesSet.{places-none, places-on}
 use Rattle.number.proofs.words.set_numbers.Statement.{statement}
 use Rattle.number.proofs.words.set_numbers.Tie as tie
 
 -- ten numbers more
-ten-more : (t : ℕ) {old mid new : List ℕ} → Stretch (numberWord 0) 0 (10 * t) old mid → Stretch (numberWord (10 * t)) (10 * t) 10 mid new
-    → Stretch (numberWord 0) 0 (10 * (t + 1)) old new
+ten-more : (t : ℕ) {old mid new : List ℕ} → PlacesSet (numberWord 0) 0 (10 * t) old mid → PlacesSet (numberWord (10 * t)) (10 * t) 10 mid new
+    → PlacesSet (numberWord 0) 0 (10 * (t + 1)) old new
 ten-more t {mid = mid} {new = new} s n =
     let e : 10 * (t + 1) ≡ 10 * t + 10 = omega arith in
-    let ten : Stretch (numberWord (10 * t)) (0 + 10 * t) 10 mid new = rw (zero-add (10 * t)) n in
-    rw e (stretch-on (10 * t) 10 (λ i v h w. rw zero-add w) s ten)
+    let ten : PlacesSet (numberWord (10 * t)) (0 + 10 * t) 10 mid new = rw (zero-add (10 * t)) n in
+    rw e (places-on (10 * t) 10 (λ i v h w. rw zero-add w) s ten)
 
 abbrev Inv-loop : tie.InvT-loop
-Inv-loop words₀ tens₀ words tens = Stretch (numberWord 0) 0 (10 * tens) words₀ words × (tens ≤ 10)
+Inv-loop words₀ tens₀ words tens = PlacesSet (numberWord 0) 0 (10 * tens) words₀ words × (tens ≤ 10)
 
 abbrev μ-loop : tie.MeasureT-loop
 μ-loop words₀ tens₀ words tens = 10 - tens
 
 loop-holds : tie.Need-loop-holds Inv-loop μ-loop
-loop-holds c = (stretch-none, omega arith)
+loop-holds c = (places-none, omega arith)
 
 set-ten-requires : tie.Need-set-ten-requires Inv-loop μ-loop
 set-ten-requires c κs = omega arith

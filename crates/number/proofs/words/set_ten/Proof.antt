@@ -5,15 +5,15 @@ use mathlib.Core.Path.{_≡_}
 use mathlib.Core.List.{[], _∷_}
 use native.Mathlib.Omega.{arith}
 use borrow.Author.Needs.{needs}
-use Rattle.number.specs.Stretch.{Stretch}
+use Rattle.number.specs.PlacesSet.{PlacesSet}
 use Rattle.number.specs.Word.{byteText, Word, numberWord}
-use Rattle.number.proofs.Stretch.{stretch-none, stretch-more}
+use Rattle.number.proofs.PlacesSet.{places-none, places-more}
 use Rattle.number.proofs.Word.{byte-text, word-count, word-on, short-digits}
 use Rattle.number.proofs.words.set_ten.Statement.{statement}
 use Rattle.number.proofs.words.set_ten.Tie as tie
 
 abbrev Inv-loop : tie.InvT-loop
-Inv-loop words₀ tens first last₀ words last = Stretch (numberWord (10 * tens)) (10 * tens) last words₀ words × (last ≤ 10)
+Inv-loop words₀ tens first last₀ words last = PlacesSet (numberWord (10 * tens)) (10 * tens) last words₀ words × (last ≤ 10)
 
 abbrev μ-loop : tie.MeasureT-loop
 μ-loop words₀ tens first last₀ words last = 10 - last
@@ -26,7 +26,7 @@ first-byte-requires : tie.Need-first-byte-requires Inv-loop μ-loop
 first-byte-requires c κs = search needs
 
 loop-holds : tie.Need-loop-holds Inv-loop μ-loop
-loop-holds c = (stretch-none, omega arith)
+loop-holds c = (places-none, omega arith)
 
 add-word-before : tie.Need-add-word-before Inv-loop μ-loop
 add-word-before c = omega arith
@@ -64,7 +64,7 @@ loop-again c =
     let s = c .before .before .before .before .before .before in
     let f = c .before .before .before .before .first-byte in
     let w = word-on (byteText (f .result)) (last-word (c .before)) (c .word-before2 .ensures) in
-    (stretch-more _ _ (omega arith) (l .inv .0) (rw (f .ensures, short-digits (s .args .tens) (l .last) (s .pre .0) (omega arith)) at w), omega arith)
+    (places-more _ _ (omega arith) (l .inv .0) (rw (f .ensures, short-digits (s .args .tens) (l .last) (s .pre .0) (omega arith)) at w), omega arith)
 
 same-length : tie.Need-same-length Inv-loop μ-loop
 same-length c = omega arith

@@ -4,20 +4,20 @@ use Prim.Native.Nat.{_-_, _≤_}
 use mathlib.Core.Path.{_≡_}
 use native.Mathlib.Omega.{arith}
 use borrow.Author.Needs.{needs}
-use Rattle.number.specs.Stretch.{Stretch}
+use Rattle.number.specs.PlacesSet.{PlacesSet}
 use Rattle.text_buffer.specs.Words.{classWord}
-use Rattle.number.proofs.Stretch.{stretch-none, stretch-more}
+use Rattle.number.proofs.PlacesSet.{places-none, places-more}
 use Rattle.text_buffer.proofs.words.set_row.Statement.{statement}
 use Rattle.text_buffer.proofs.words.set_row.Tie as tie
 
 abbrev Inv-loop : tie.InvT-loop
-Inv-loop words₀ row b tail class₀ words class = Stretch (classWord b tail) row class words₀ words × (class ≤ 5)
+Inv-loop words₀ row b tail class₀ words class = PlacesSet (classWord b tail) row class words₀ words × (class ≤ 5)
 
 abbrev μ-loop : tie.MeasureT-loop
 μ-loop words₀ row b tail class₀ words class = 5 - class
 
 loop-holds : tie.Need-loop-holds Inv-loop μ-loop
-loop-holds c = (stretch-none, omega arith)
+loop-holds c = (places-none, omega arith)
 
 side-byte-requires : tie.Need-side-byte-requires Inv-loop μ-loop
 side-byte-requires c κs = search needs
@@ -43,7 +43,7 @@ loop-less c = omega arith
 loop-again : tie.Need-loop-again Inv-loop μ-loop
 loop-again c =
     let l = c .before .before .before .loop in
-    (stretch-more _ _ (omega arith) (l .inv .0) (rw (c .before .side-byte .ensures) at (c .word-before .ensures)), omega arith)
+    (places-more _ _ (omega arith) (l .inv .0) (rw (c .before .side-byte .ensures) at (c .word-before .ensures)), omega arith)
 
 same-length : tie.Need-same-length Inv-loop μ-loop
 same-length c = omega arith

@@ -3,20 +3,20 @@
 use Prim.Native.Nat.{_-_, _≤_}
 use mathlib.Core.Path.{_≡_, refl}
 use native.Mathlib.Omega.{arith}
-use Rattle.number.specs.Stretch.{Stretch}
+use Rattle.number.specs.PlacesSet.{PlacesSet}
 use Rattle.text_buffer.specs.Words.{isWord}
-use Rattle.number.proofs.Stretch.{stretch-none, stretch-more}
+use Rattle.number.proofs.PlacesSet.{places-none, places-more}
 use Rattle.text_buffer.proofs.words.set_same.Statement.{statement}
 use Rattle.text_buffer.proofs.words.set_same.Tie as tie
 
 abbrev Inv-loop : tie.InvT-loop
-Inv-loop words₀ from n w i₀ words i = Stretch (isWord w) from i words₀ words × (i ≤ n)
+Inv-loop words₀ from n w i₀ words i = PlacesSet (isWord w) from i words₀ words × (i ≤ n)
 
 abbrev μ-loop : tie.MeasureT-loop
 μ-loop words₀ from n w i₀ words i = n - i
 
 loop-holds : tie.Need-loop-holds Inv-loop μ-loop
-loop-holds c = (stretch-none, omega arith)
+loop-holds c = (places-none, omega arith)
 
 add-words : tie.Need-add-words Inv-loop μ-loop
 add-words c = omega arith
@@ -34,7 +34,7 @@ loop-less : tie.Need-loop-less Inv-loop μ-loop
 loop-less c = omega arith
 
 loop-again : tie.Need-loop-again Inv-loop μ-loop
-loop-again c = (stretch-more _ _ (omega arith) (c .before .loop .inv .0) refl, omega arith)
+loop-again c = (places-more _ _ (omega arith) (c .before .loop .inv .0) refl, omega arith)
 
 same-length : tie.Need-same-length Inv-loop μ-loop
 same-length c = omega arith

@@ -1,4 +1,4 @@
--- Laws of `Stretch`: one place more, one stretch behind the other, and what a stretch holds said otherwise.
+-- Laws of `PlacesSet`: one place more, one stretch behind the other, and what a stretch holds said otherwise.
 -- Assumes nothing.
 use Prim.Native.Nat.{ℕ, _+_, _-_, _≤_, _<_}
 use mathlib.Core.Path.{_≡_, refl, _∙_}
@@ -10,15 +10,15 @@ use lib.Seq.{getD-set-same, getD-set-other}
 use borrow.Author.Count.{below-none, below-more}
 use borrow.Author.Tests.{ltb-true, ltb-false}
 use Rattle.number.proofs.Split.{split}
-use Rattle.number.specs.Stretch.{Stretch}
+use Rattle.number.specs.PlacesSet.{PlacesSet}
 
 module _ {Holds : ℕ → ℕ → Type 0} {from : ℕ} {old : List ℕ} where
-  pub stretch-none : Stretch Holds from 0 old old
-  stretch-none = record { inside = below-none _; before = λ i h. refl; behind = λ i h. refl; long = refl }
+  pub places-none : PlacesSet Holds from 0 old old
+  places-none = record { inside = below-none _; before = λ i h. refl; behind = λ i h. refl; long = refl }
 
-  pub stretch-more : (n w : ℕ) {mid : List ℕ} → from + n < length old → Stretch Holds from n old mid → Holds n w
-      → Stretch Holds from (n + 1) old (set mid (from + n) w)
-  stretch-more n w {mid} l s h =
+  pub places-more : (n w : ℕ) {mid : List ℕ} → from + n < length old → PlacesSet Holds from n old mid → Holds n w
+      → PlacesSet Holds from (n + 1) old (set mid (from + n) w)
+  places-more n w {mid} l s h =
       record {
         inside =
             below-more _ n
@@ -29,13 +29,13 @@ module _ {Holds : ℕ → ℕ → Type 0} {from : ℕ} {old : List ℕ} where
         long = length-set mid (from + n) w ∙ s .long;
       }
 
-  pub stretch-same : {Same : ℕ → ℕ → Type 0} {n : ℕ} {new : List ℕ} → ((i v : ℕ) → i < n → Holds i v → Same i v)
-      → Stretch Holds from n old new → Stretch Same from n old new
-  stretch-same f s = record { inside = λ i k. f i _ k (s .inside i k); before = s .before; behind = s .behind; long = s .long }
+  pub places-same : {Same : ℕ → ℕ → Type 0} {n : ℕ} {new : List ℕ} → ((i v : ℕ) → i < n → Holds i v → Same i v)
+      → PlacesSet Holds from n old new → PlacesSet Same from n old new
+  places-same f s = record { inside = λ i k. f i _ k (s .inside i k); before = s .before; behind = s .behind; long = s .long }
 
-  pub stretch-on : {Then : ℕ → ℕ → Type 0} (n m : ℕ) {mid new : List ℕ} → ((i v : ℕ) → i < m → Then i v → Holds (n + i) v)
-      → Stretch Holds from n old mid → Stretch Then (from + n) m mid new → Stretch Holds from (n + m) old new
-  stretch-on n m f s t =
+  pub places-on : {Then : ℕ → ℕ → Type 0} (n m : ℕ) {mid new : List ℕ} → ((i v : ℕ) → i < m → Then i v → Holds (n + i) v)
+      → PlacesSet Holds from n old mid → PlacesSet Then (from + n) m mid new → PlacesSet Holds from (n + m) old new
+  places-on n m f s t =
       record {
         inside = λ i k.
             split (ltb i n)
