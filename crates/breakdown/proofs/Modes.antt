@@ -64,7 +64,8 @@ alternates [] l = tt
 alternates (zero ∷ cs) (h & l) = alternates cs l
 alternates (suc c ∷ cs) (h & l) =
     let t = token 1 1 false in
-    opens-break (tokens (suc c ∷ cs)) (behind-runs 0 (suc c) 1 (toLast cs) t (λ e. omega arith) (omega arith) (omega arith) h (low-last cs l) (tokens-closed t (suc c ∷ cs) (suc-ne-zero 0)))
+    opens-break (tokens (suc c ∷ cs)) (behind-runs 0 (suc c) 1 (toLast cs) t (λ e. omega arith) (omega arith) (omega arith) h (low-last cs l)
+    (tokens-closed t (suc c ∷ cs) (suc-ne-zero 0)))
 
 -- ---- the tokens of a chart, in two slices
 
@@ -80,7 +81,8 @@ module _ (chart : List ℕ) where
 
   pub active-measures : length chart ≤ 1048576 → ActiveMeasures (activePart chart)
   unfolding activePart
-  active-measures h = record { few = simp (length-take, length-drop) (omega arith); alternates = rw part-tokens (alternates (classes chart) (low-classes chart)) }
+  active-measures h =
+      record { few = simp (length-take, length-drop) (omega arith); alternates = rw part-tokens (alternates (classes chart) (low-classes chart)) }
 
 -- ---- breaks have a length, so with the limit 0 nothing joins, and below 2 nothing is added
 
@@ -206,13 +208,17 @@ module _ (ts : List Token) (chart : List ℕ) (e : ts ≡ tokens (classes chart)
   pub sn-text : (mode : BreakdownMode) → snOf (limitOf mode) ts ≡ text (sn mode) chart
   unfolding text reduced
   sn-text mode =
-      rw e (ap spaced (sn-items mode (tokens (classes chart)) (tokens-long (classes chart) (low-classes chart))) ∙ sn-render mode (snItems mode (tokens (classes chart))))
+      rw e (ap spaced (sn-items mode (tokens (classes chart)) (tokens-long (classes chart) (low-classes chart)))
+      ∙ sn-render mode (snItems mode (tokens (classes chart))))
 
-  from-pieces : (l : StreamBreakdownLevel) (b : Bool) (k : ℕ) → standardOf b k ts ≡ render (standard l) (map (item (gapItem b)) (join k (pieces (classes chart))))
+  from-pieces : (l : StreamBreakdownLevel) (b : Bool) (k : ℕ) → standardOf b k ts
+      ≡ render (standard l) (map (item (gapItem b)) (join k (pieces (classes chart))))
   from-pieces l b k = rw (e, pieces-merged (classes chart)) (standard-render l b k (tokens (classes chart)))
 
   alone : join 0 (pieces (classes chart)) ≡ pieces (classes chart)
-  alone = join-none (pieces (classes chart)) (rw (pieces-merged (classes chart)) (long-merged (tokens (classes chart)) (tokens-long (classes chart) (low-classes chart))))
+  alone =
+      join-none (pieces (classes chart)) (rw (pieces-merged (classes chart))
+      (long-merged (tokens (classes chart)) (tokens-long (classes chart) (low-classes chart))))
 
   -- Standard
   pub detailed-text : standardOf false 0 ts ≡ text (standard Level.Detailed) chart

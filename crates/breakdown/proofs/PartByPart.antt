@@ -205,7 +205,8 @@ module _ {m : List ℕ} {f : Form} {r : Run} {i : ℕ} (a : Along m f r i) where
           record {
             run = o .run;
             behind =
-                behind-any _ (u .class) more (o .run .run) (o .run .low) (behind-back (r .class) (paired (take (t .tokens) cs) (take (t .tokens) ns)) more behind);
+                behind-any _ (u .class) more (o .run .run) (o .run .low) (behind-back (r .class)
+                (paired (take (t .tokens) cs) (take (t .tokens) ns)) more behind);
             small = omega (arith, o .small, a .small, longC, g .fits, g .on);
             within = next-within;
           }

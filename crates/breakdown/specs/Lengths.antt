@@ -40,12 +40,14 @@ endedLength t = t .length + length (runText (t .run))
 -- of each of the six forms and its tally
 abbrev pub each : (Form → Tally → Type 0) → Six → Type 0
 each P s =
-    P (snForm 0) (s .a) × P (snForm 1) (s .b) × P (snForm 4) (s .c) × P (standardForm 0 false) (s .d) × P (standardForm 0 true) (s .e) × P (standardForm 1 true) (s .f)
+    P (snForm 0) (s .a) × P (snForm 1) (s .b) × P (snForm 4) (s .c) × P (standardForm 0 false) (s .d) × P (standardForm 0 true) (s .e)
+    × P (standardForm 1 true) (s .f)
 
 -- of each of the six forms and its two tallies
 abbrev pub bothEach : (Form → Tally → Tally → Type 0) → Six → Six → Type 0
 bothEach P s u =
-    P (snForm 0) (s .a) (u .a) × P (snForm 1) (s .b) (u .b) × P (snForm 4) (s .c) (u .c) × P (standardForm 0 false) (s .d) (u .d) × P (standardForm 0 true) (s .e) (u .e) × P (standardForm 1 true) (s .f) (u .f)
+    P (snForm 0) (s .a) (u .a) × P (snForm 1) (s .b) (u .b) × P (snForm 4) (s .c) (u .c) × P (standardForm 0 false) (s .d) (u .d)
+    × P (standardForm 0 true) (s .e) (u .e) × P (standardForm 1 true) (s .f) (u .f)
 
 pub record LastTallies (s : Six) (r : List ℕ) : Type 0 where
   pub number : r ≡ endedLength (s .a) ∷ endedLength (s .b) ∷ endedLength (s .c) ∷ endedLength (s .d) ∷ endedLength (s .e) ∷ endedLength (s .f) ∷ []

@@ -54,8 +54,11 @@ fn text_part(
     place: usize,
     left: usize,
 ) -> Done
-    requires { ⌜ TokensBehind (run .class) (now cs) (now ns) × Open (formWith sn limit signs) run × (run .length ≤ 2 ^ 62) × Ready (now buf) left (now words) × PartRoom (partText (formWith sn limit signs) run (now cs) (now ns)) (now buf) (now out) (goesOn place left) ⌝ }
-    ensures { λ r. ⌜ PartWritten (partText (formWith sn limit signs) run (now (cs .entry)) (now (ns .entry))) (openText (formWith sn limit signs) (r .run)) (now (buf .entry)) (now (out .entry)) (goesOn place left) (now (buf .exit)) (now (out .exit)) (r .to) × OpenNext (formWith sn limit signs) run (length (now (cs .entry))) (r .run) ⌝ }
+    requires { ⌜ TokensBehind (run .class) (now cs) (now ns) × Open (formWith sn limit signs) run × (run .length ≤ 2 ^ 62) × Ready (now buf) left (now words)
+        × PartRoom (partText (formWith sn limit signs) run (now cs) (now ns)) (now buf) (now out) (goesOn place left) ⌝ }
+    ensures { λ r. ⌜ PartWritten (partText (formWith sn limit signs) run (now (cs .entry)) (now (ns .entry))) (openText (formWith sn limit signs) (r .run))
+        (now (buf .entry)) (now (out .entry)) (goesOn place left) (now (buf .exit)) (now (out .exit)) (r .to)
+        × OpenNext (formWith sn limit signs) run (length (now (cs .entry))) (r .run) ⌝ }
 {
     let from = Left { place, left };
     if sn {
@@ -89,8 +92,10 @@ fn form_part(
     out: &mut [u8],
     to: Left,
 ) -> Done
-    requires { ⌜ TokensBehind (run .class) (now cs) (now ns) × Open form run × (run .length ≤ 2 ^ 62) × Ready (now buf) (to .left) (now words) × PartRoom (partText form run (now cs) (now ns)) (now buf) (now out) to ⌝ }
-    ensures { λ r. ⌜ PartWritten (partText form run (now (cs .entry)) (now (ns .entry))) (openText form (r .run)) (now (buf .entry)) (now (out .entry)) to (now (buf .exit)) (now (out .exit)) (r .to) × OpenNext form run (length (now (cs .entry))) (r .run) ⌝ }
+    requires { ⌜ TokensBehind (run .class) (now cs) (now ns) × Open form run × (run .length ≤ 2 ^ 62) × Ready (now buf) (to .left) (now words)
+        × PartRoom (partText form run (now cs) (now ns)) (now buf) (now out) to ⌝ }
+    ensures { λ r. ⌜ PartWritten (partText form run (now (cs .entry)) (now (ns .entry))) (openText form (r .run)) (now (buf .entry)) (now (out .entry)) to
+        (now (buf .exit)) (now (out .exit)) (r .to) × OpenNext form run (length (now (cs .entry))) (r .run) ⌝ }
 {
     text_part(
         cs,
@@ -133,7 +138,8 @@ fn add_none(form: Form, buf: &mut [u8], k: usize) -> usize
 
 // The last run or piece.
 fn add_last(done: Done, words: &[u32; 192], buf: &mut [u8], out: &mut [u8]) -> Left
-    requires { ⌜ Ready (now buf) (done .to .left) (now words) × (done .run .class ≤ 4) × Room (now out) (done .to .place) (take (done .to .left) (now buf) ++ runText (done .run)) ⌝ }
+    requires { ⌜ Ready (now buf) (done .to .left) (now words) × (done .run .class ≤ 4)
+        × Room (now out) (done .to .place) (take (done .to .left) (now buf) ++ runText (done .run)) ⌝ }
     ensures { λ r. ⌜ Added (now (buf .entry)) (now (out .entry)) (done .to) (runText (done .run)) (now (buf .exit)) (now (out .exit)) r ⌝ }
 {
     let to = done.to;
@@ -153,8 +159,10 @@ pub fn text_of_tokens(
     out: &mut [u8],
     from: Left,
 ) -> Left
-    requires { ⌜ Tokens (now cs) (now ns) × Ready (now buf) (from .left) (now words) × Room (now out) (from .place) (take (from .left) (now buf) ++ textOf form (paired (now cs) (now ns))) ⌝ }
-    ensures { λ r. ⌜ Added (now (buf .entry)) (now (out .entry)) from (textOf form (paired (now (cs .entry)) (now (ns .entry)))) (now (buf .exit)) (now (out .exit)) r ⌝ }
+    requires { ⌜ Tokens (now cs) (now ns) × Ready (now buf) (from .left) (now words)
+        × Room (now out) (from .place) (take (from .left) (now buf) ++ textOf form (paired (now cs) (now ns))) ⌝ }
+    ensures { λ r. ⌜ Added (now (buf .entry)) (now (out .entry)) from (textOf form (paired (now (cs .entry)) (now (ns .entry))))
+        (now (buf .exit)) (now (out .exit)) r ⌝ }
 {
     if cs.len() == 0 {
         let full = add_none(form, buf, from.left);
@@ -199,7 +207,8 @@ fn measures_text(
     at: usize,
 ) -> Left
     requires { ⌜ ActiveMeasures (now m) × Ready (now buf) 0 (now words) × Room (now out) at (textOf form (runs (classes (now m)))) ⌝ }
-    ensures { λ r. ⌜ Added (now (buf .entry)) (now (out .entry)) (goesOn at 0) (textOf form (runs (classes (now (m .entry))))) (now (buf .exit)) (now (out .exit)) r ⌝ }
+    ensures { λ r. ⌜ Added (now (buf .entry)) (now (out .entry)) (goesOn at 0) (textOf form (runs (classes (now (m .entry)))))
+        (now (buf .exit)) (now (out .exit)) r ⌝ }
 {
     if m.len() == 0 {
         return Left {

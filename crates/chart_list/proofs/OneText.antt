@@ -13,7 +13,8 @@ use Rattle.number.specs.Questions.{firstNo, roomFor, OneText}
 use Rattle.number.specs.declared.Written.{Written}
 use Rattle.number.proofs.Split.{split}
 
-pub counted : {text old new : List ℕ} {r : Written} → length new ≡ length old → OneText (firstNo (roomFor text old ∷ [])) text old new r → Counts (r .length) new
+pub counted : {text old new : List ℕ} {r : Written} → length new ≡ length old → OneText (firstNo (roomFor text old ∷ [])) text old new r
+    → Counts (r .length) new
 counted {text} {old} {new} same p =
     counts _ new
     (rw (same, ap (λ (w : Written). w .length) (p .answer))

@@ -76,5 +76,6 @@ module _ (n : ℕ) (old : List ℕ) where
     finished h l el =
         let e : k ≡ 1 = g .place ∙ rw (digits-one rest h) in
         written (digits n) old (set out 0 (48 + rest)) (g .room)
-        (back out 0 (48 + rest) (omega (arith, g .long, g .within)) ∙ rw (g .whole, digits-one rest h) (ap {B = List ℕ} (λ r. (48 + rest) ∷ r) (rw (e, g .whole, digits-one rest h) at (g .bytes))))
+        (back out 0 (48 + rest) (omega (arith, g .long, g .within)) ∙ rw (g .whole, digits-one rest h)
+        (ap {B = List ℕ} (λ r. (48 + rest) ∷ r) (rw (e, g .whole, digits-one rest h) at (g .bytes))))
         l el

@@ -1,4 +1,5 @@
--- Digits can be read back, so two numbers with the same digits are the same. What is read is said with any bytes after the digits: then no law of `++` is needed.
+-- Digits can be read back, so two numbers with the same digits are the same. What is read is said with any bytes after the
+-- digits: then no law of `++` is needed.
 -- Assumes nothing.
 use Prim.Native.Nat.{ℕ, zero, suc, _+_, _-_, _*_, _/_, _%_, _≤_, _<_}
 use mathlib.Core.Path.{_≡_, refl, sym, ap, _∙_}

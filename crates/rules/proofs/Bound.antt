@@ -14,7 +14,8 @@ use Rattle.rules.specs.declared.BreakdownMode.the-variants as Mode
 use Rattle.rules.specs.declared.StreamBreakdownLevel.{StreamBreakdownLevel}
 use Rattle.rules.specs.declared.StreamBreakdownLevel.the-variants as Level
 use Rattle.rules.specs.Slices.{total}
-use Rattle.rules.proofs.Cost.{digits-most, Sound, runs-sound, join-sound, absorb-sound, drop-sound, total-runs, active-short, join-total, absorb-total, drop-total, strung-most, spaced, sn-gaps, sn-signs, standard-gaps, standard-signs}
+use Rattle.rules.proofs.Cost.{digits-most, Sound, runs-sound, join-sound, absorb-sound, drop-sound, total-runs, active-short, join-total}
+use Rattle.rules.proofs.Cost.{absorb-total, drop-total, strung-most, spaced, sn-gaps, sn-signs, standard-gaps, standard-signs}
 
 abbrev pub most : Kind → ℕ → ℕ
 most (sn m) n = 4 * n
@@ -67,22 +68,59 @@ module _ (m : List ℕ) where
   unfolding text reduced
   each (sn Mode.Detailed) =
       let ts = dropOnes (tokens cs) in
-      omega (arith, sn-render Mode.Detailed (map (item gap) ts), strung-most 4 spaced gap sn-gaps ts (drop-sound (tokens cs) (tokens-sound cs)), drop-total (tokens cs), tokens-total cs)
+      omega (
+        arith,
+        sn-render Mode.Detailed (map (item gap) ts),
+        strung-most 4 spaced gap sn-gaps ts (drop-sound (tokens cs) (tokens-sound cs)),
+        drop-total (tokens cs),
+        tokens-total cs,
+      )
   each (sn Mode.Partial) =
       let js = join 1 (tokens cs) in
       let s = join-sound 1 (tokens cs) (tokens-sound cs) in
-      omega (arith, sn-render Mode.Partial (map (item (signOf 32)) (dropOnes js)), strung-most 4 spaced (signOf 32) (sn-signs 32) (dropOnes js) (drop-sound js s), drop-total js, join-total 1 (tokens cs), tokens-total cs)
+      omega (
+        arith,
+        sn-render Mode.Partial (map (item (signOf 32)) (dropOnes js)),
+        strung-most 4 spaced (signOf 32) (sn-signs 32) (dropOnes js) (drop-sound js s),
+        drop-total js,
+        join-total 1 (tokens cs),
+        tokens-total cs,
+      )
   each (sn Mode.Simplified) =
       let js = join 4 (tokens cs) in
       let s = absorb-sound 4 js (join-sound 4 (tokens cs) (tokens-sound cs)) in
-      omega (arith, sn-render Mode.Simplified (map (item (signOf 32)) (dropOnes (absorb 4 js))), strung-most 4 spaced (signOf 32) (sn-signs 32) (dropOnes (absorb 4 js)) (drop-sound (absorb 4 js) s), drop-total (absorb 4 js), absorb-total 4 js, join-total 4 (tokens cs), tokens-total cs)
+      omega (
+        arith,
+        sn-render Mode.Simplified (map (item (signOf 32)) (dropOnes (absorb 4 js))),
+        strung-most 4 spaced (signOf 32) (sn-signs 32) (dropOnes (absorb 4 js)) (drop-sound (absorb 4 js) s),
+        drop-total (absorb 4 js),
+        absorb-total 4 js,
+        join-total 4 (tokens cs),
+        tokens-total cs,
+      )
   each (standard Level.Detailed) =
-      omega (arith, standard-render Level.Detailed (map (item gap) (pieces cs)), strung-most 3 part gap standard-gaps (pieces cs) (pieces-sound cs), pieces-total cs)
+      omega (
+        arith,
+        standard-render Level.Detailed (map (item gap) (pieces cs)),
+        strung-most 3 part gap standard-gaps (pieces cs) (pieces-sound cs),
+        pieces-total cs,
+      )
   each (standard Level.Partial) =
-      omega (arith, standard-render Level.Partial (map (item (signOf 31)) (pieces cs)), strung-most 1 part (signOf 31) (standard-signs 31) (pieces cs) (pieces-sound cs), pieces-total cs)
+      omega (
+        arith,
+        standard-render Level.Partial (map (item (signOf 31)) (pieces cs)),
+        strung-most 1 part (signOf 31) (standard-signs 31) (pieces cs) (pieces-sound cs),
+        pieces-total cs,
+      )
   each (standard Level.Simple) =
       let js = join 1 (pieces cs) in
-      omega (arith, standard-render Level.Simple (map (item (signOf 31)) js), strung-most 1 part (signOf 31) (standard-signs 31) js (join-sound 1 (pieces cs) (pieces-sound cs)), join-total 1 (pieces cs), pieces-total cs)
+      omega (
+        arith,
+        standard-render Level.Simple (map (item (signOf 31)) js),
+        strung-most 1 part (signOf 31) (standard-signs 31) js (join-sound 1 (pieces cs) (pieces-sound cs)),
+        join-total 1 (pieces cs),
+        pieces-total cs,
+      )
   each (standard Level.Total) = omega (arith, sum-most (streams cs), streams-few cs)
 
   pub text-most : (k : Kind) → length (text k m) ≤ most k (length m)

@@ -119,7 +119,8 @@ joinFrom-total k t [] = refl
 joinFrom-total k t (u ∷ []) = refl
 joinFrom-total k t (u ∷ v ∷ us) =
     split (joins k t u v)
-    (λ e. rw (e, joinFrom-total k (token (class t) (len t + len u + len v) true) us) (omega (arith, total-cons t (u ∷ v ∷ us), total-cons u (v ∷ us), total-cons v us)))
+    (λ e. rw (e, joinFrom-total k (token (class t) (len t + len u + len v) true) us)
+    (omega (arith, total-cons t (u ∷ v ∷ us), total-cons u (v ∷ us), total-cons v us)))
     (λ e. rw (e, total-cons t (joinFrom k u (v ∷ us)), joinFrom-total k u (v ∷ us)) (sym (total-cons t (u ∷ v ∷ us))))
 
 pub join-total : (k : ℕ) (ts : List Token) → total (join k ts) ≡ total ts

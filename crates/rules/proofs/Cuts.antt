@@ -49,7 +49,8 @@ module _ (P : ℕ → Bool) where
     -- `Reads b text is`: the text is stretches that pass and fail the test in turn, b saying which comes first, and `read` makes the items `is` of them
     pub data Reads : Bool → List ℕ → List Item → Type 0 where
       ended : {b : Bool} → Reads b [] []
-      stretch : {b : Bool} {rest : List ℕ} {is js : List Item} (w : List ℕ) → Some w → All P b w → read w is ≡ js → Reads (not b) rest is → Reads b (w ++ rest) js
+      stretch : {b : Bool} {rest : List ℕ} {is js : List Item} (w : List ℕ) → Some w → All P b w → read w is ≡ js → Reads (not b) rest is
+          → Reads b (w ++ rest) js
 
     parsed : {b : Bool} {text : List ℕ} {is : List Item} → Reads b text is → Opens b (cuts text) × (parse text ≡ is)
     parsed ended = (tt, refl)

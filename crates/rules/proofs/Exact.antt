@@ -78,7 +78,8 @@ module _ (g : ℕ → Item) (d : Item) where
     parts-reads (suc p) (token zero n s ∷ ts) q h = gaps n _ _ (parts-reads 0 ts (omega arith) (h .2))
     parts-reads (suc p) (token (suc c) n s ∷ ts) q h = absurd (h .1 (omega arith))
 
-    standard-back : (l : StreamBreakdownLevel) (ts : List Token) → Differ 1 0 ts → parse figure (read d) (render (standard l) (map (item g) ts)) ≡ map (item g) ts
+    standard-back : (l : StreamBreakdownLevel) (ts : List Token) → Differ 1 0 ts
+        → parse figure (read d) (render (standard l) (map (item g) ts)) ≡ map (item g) ts
     unfolding render
     standard-back l [] h = refl
     standard-back l (t ∷ ts) h = parse-reads figure (read d) (parts-reads 0 (t ∷ ts) (omega arith) h)
@@ -121,7 +122,8 @@ read-back (sn m) d = spaced-back m (sn-fine m d)
 read-back (standard Level.Detailed) d = standard-back gap (gap 1) gaps-read Level.Detailed (pieces (classes d)) (pieces-differ (classes d))
 read-back (standard Level.Partial) d = standard-back (signOf 31) (sign dash) (signs-read 31) Level.Partial (pieces (classes d)) (pieces-differ (classes d))
 read-back (standard Level.Simple) d =
-    standard-back (signOf 31) (sign dash) (signs-read 31) Level.Simple (join 1 (pieces (classes d))) (join-differ 1 1 0 (pieces (classes d)) (pieces-differ (classes d)))
+    standard-back (signOf 31) (sign dash) (signs-read 31) Level.Simple (join 1 (pieces (classes d)))
+    (join-differ 1 1 0 (pieces (classes d)) (pieces-differ (classes d)))
 read-back (standard Level.Total) d = total-back (streams (classes d))
 
 -- two charts' texts are the same exactly when their reduced lists are

@@ -11,7 +11,8 @@ use Rattle.rules.specs.Chart.{token}
 use Rattle.rules.specs.Slices.{paired}
 
 -- the token at i, and those after it
-pub slices-next : (cs ns : List ℕ) (i : ℕ) → length cs ≡ length ns → i < length cs → drop i (paired cs ns) ≡ token (getD cs i 0) (getD ns i 0) false ∷ drop (suc i) (paired cs ns)
+pub slices-next : (cs ns : List ℕ) (i : ℕ) → length cs ≡ length ns → i < length cs → drop i (paired cs ns)
+    ≡ token (getD cs i 0) (getD ns i 0) false ∷ drop (suc i) (paired cs ns)
 slices-next [] ns i e h = absurd (not-suc-le-zero h)
 slices-next (c ∷ cs) [] i e h = absurd (omega arith)
 slices-next (c ∷ cs) (n ∷ ns) zero e h = refl

@@ -10,7 +10,8 @@ use lib.Dec.{eqb}
 use Rattle.number.proofs.Split.{split}
 use Rattle.rules.specs.Chart.{Token, token, class, len}
 use Rattle.rules.specs.Reduced.{joins, joinFrom, short, absorb, dropOnes}
-use Rattle.rules.proofs.Steps.{joins-yes, joins-class, joins-long, short-yes, short-one, short-long, join-on, simple-run, simple-soak, simple-not, drop-run, drop-one, drop-not}
+use Rattle.rules.proofs.Steps.{joins-yes, joins-class, joins-long, short-yes, short-one, short-long, join-on}
+use Rattle.rules.proofs.Steps.{simple-run, simple-soak, simple-not, drop-run, drop-one, drop-not}
 use Rattle.text_buffer.specs.MayFollow.{firstClass}
 use Rattle.sn_text.specs.Sn.{shown, breakTokens}
 

@@ -391,7 +391,8 @@ module _ (cs ns : List ℕ) (i c : ℕ) (b : MayFollow c (drop i (paired cs ns))
       ≡ ended 0 (dropOnes (token (getD cs i 0) (getD ns i 0) false ∷ [])) ++ snOf 0 (drop (suc i) (paired cs ns) ++ more)
   text-on more =
       rw (here, there)
-      (next-text (token (getD cs i 0) (getD ns i 0) false) (getD cs (suc i) 0) (getD ns (suc i) 0) (drop (suc (suc i)) (paired cs ns)) more (rw there at behind-on))
+      (next-text (token (getD cs i 0) (getD ns i 0) false) (getD cs (suc i) 0) (getD ns (suc i) 0) (drop (suc (suc i)) (paired cs ns)) more
+      (rw there at behind-on))
 
 -- the last token
 last-token : (cs ns : List ℕ) (m : ℕ) → length cs ≡ length ns → suc m ≡ length cs → drop m (paired cs ns) ≡ token (getD cs m 0) (getD ns m 0) false ∷ []
@@ -425,7 +426,13 @@ module _ {cs ns : List ℕ} {start total i : ℕ} (w : Summing cs ns start total
       let chunk = ended 0 (dropOnes (token (getD cs i 0) (getD ns i 0) false ∷ [])) in
       rw add-one
       (record {
-        sum = λ more. omega (arith, w .sum more, ap {B = ℕ} length (text-on cs ns i (w .earlier) (w .behind) l h more), length-append chunk (snOf 0 (drop (suc i) (paired cs ns) ++ more)), m .number);
+        sum = λ more. omega (
+          arith,
+          w .sum more,
+          ap {B = ℕ} length (text-on cs ns i (w .earlier) (w .behind) l h more),
+          length-append chunk (snOf 0 (drop (suc i) (paired cs ns) ++ more)),
+          m .number,
+        );
         earlier = getD cs i 0;
         behind = behind-on cs ns i (w .earlier) (w .behind) l h;
         short = omega (arith, w .short, m .short);
@@ -438,7 +445,15 @@ module _ {cs ns : List ℕ} {start total i : ℕ} (w : Summing cs ns start total
   summing-ends c n s b h {x} r z m e f y =
       let last : drop i (paired cs ns) ≡ token (getD cs m 0) (getD ns m 0) false ∷ [] = rw e (last-token cs ns m (b .long) f) in (
         record {
-          whole = λ more. omega (arith, ap {B = ℕ} length (first-text c n s b h more), length-append (word (run c n s) ++ (32 ∷ [])) (snOf 0 (paired cs ns ++ more)), length-append (word (run c n s)) (32 ∷ []), rw last at (w .sum more), r .number, z);
+          whole = λ more. omega (
+            arith,
+            ap {B = ℕ} length (first-text c n s b h more),
+            length-append (word (run c n s) ++ (32 ∷ [])) (snOf 0 (paired cs ns ++ more)),
+            length-append (word (run c n s)) (32 ∷ []),
+            rw last at (w .sum more),
+            r .number,
+            z,
+          );
           short = omega (arith, w .short, r .short, z, e, f);
         },
         record { run = rw last at (w .behind) .1 .0; low = rw last at (w .behind) .1 .1; small = omega arith },
@@ -501,7 +516,8 @@ module _ (c n : ℕ) (s : Bool) {cs ns : List ℕ} (b : TokensBehind c cs ns) (h
     others-room r = record { more = r .more; room = added-room front (grown-added front g f) _ (rw (opens (r .more)) at (r .room)) }
 
     -- the token at m is the last
-    pub listing-ends : {buf' new' : List ℕ} {to' : Left} {i : ℕ} → Listing cs ns new last to buf' new' to' i → (m : ℕ) → i ≡ m → suc m ≡ length cs → getD ns m 0 < 4294967296
+    pub listing-ends : {buf' new' : List ℕ} {to' : Left} {i : ℕ} → Listing cs ns new last to buf' new' to' i → (m : ℕ) → i ≡ m → suc m ≡ length cs
+        → getD ns m 0 < 4294967296
         → PartWritten (snPart 0 (token c n s) cs ns) (snOn 0 (token (getD cs m 0) (getD ns m 0) false)) buf out (goesOn place k) buf' new' to'
         × OpenRun (token c n s) cs (token (getD cs m 0) (getD ns m 0) false)
     listing-ends {i = i} w m e l x =
@@ -532,7 +548,13 @@ pub group-length : (k : ℕ) (t : Token) (c n : ℕ) (s : Bool) (g : ℕ) {a b :
 group-length k t c n s g w x y =
     rw (w .shows, run-item (breakItem k) c n s (w .run))
     (record {
-      number = omega (arith, x .number, y .number, length-append (word (run c n s)) (32 ∷ []), length-append (word (run c n s) ++ (32 ∷ [])) (ended k (longBreak k g)));
+      number = omega (
+        arith,
+        x .number,
+        y .number,
+        length-append (word (run c n s)) (32 ∷ []),
+        length-append (word (run c n s) ++ (32 ∷ [])) (ended k (longBreak k g)),
+      );
       short = omega (arith, x .short, y .short);
     })
 

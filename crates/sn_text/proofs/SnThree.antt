@@ -27,7 +27,8 @@ use Rattle.sn_text.specs.SnParts.{snOf, ended, longBreak, joinClass, Run
 use Rattle.sn_text.specs.SnThree.{Turned, OpenedIn}
 use Rattle.sn_text.specs.declared.three.Turn.{Turn}
 use Rattle.sn_text.proofs.Groups.{break-tokens}
-use Rattle.sn_text.proofs.SnParts.{joins-over, run-item, joined-text, apart-text, near-shown, else-shown, Opened, opened-starts, opened-low, opened-whole, on-text}
+use Rattle.sn_text.proofs.SnParts.{joins-over, run-item, joined-text, apart-text, near-shown, else-shown}
+use Rattle.sn_text.proofs.SnParts.{Opened, opened-starts, opened-low, opened-whole, on-text}
 
 -- ---- how many bytes a run and a break take, with numbers of the domain
 
@@ -45,7 +46,13 @@ module _ (k c : ℕ) (r : c ≢ 0) (g : ℕ) where
   shown-most : (n : ℕ) (s : Bool) → n ≤ 1048576 → g ≤ 1048576 → length (ended k (token c n s ∷ longBreak k g)) ≤ 11 * (length (breakTokens g) + 1)
   shown-most n s h l =
       rw (run-item (breakItem k) c n s r)
-      (omega (arith, length-append (word (run c n s) ++ (32 ∷ [])) (ended k (longBreak k g)), length-append (word (run c n s)) (32 ∷ []), measured-run c n s h, long-most k g l))
+      (omega (
+        arith,
+        length-append (word (run c n s) ++ (32 ∷ [])) (ended k (longBreak k g)),
+        length-append (word (run c n s)) (32 ∷ []),
+        measured-run c n s h,
+        long-most k g l,
+      ))
 
   group-most : (n : ℕ) (s : Bool) → n + g ≤ 1048576 → length (ended k (shown k (token c n s ∷ breakTokens g))) ≤ 11 * (length (breakTokens g) + 1)
   group-most n s h =
@@ -80,7 +87,8 @@ module _ (k : ℕ) (last : Run) (g : ℕ) (next : Run) (rl : last .class ≢ 0) 
       }
 
   pub turned-joins : next .class ≡ joinClass k (last .class) g
-      → Turned k (runToken last) g (runToken next) old at old (record { run = record { class = last .class; length = last .length + (g + next .length); starred = true }; place = at })
+      → Turned k (runToken last) g (runToken next) old at old (record
+      { run = record { class = last .class; length = last .length + (g + next .length); starred = true }; place = at })
   turned-joins e =
       record {
         done = [];

@@ -72,7 +72,8 @@ fn joined_turn(
     next: Run,
     words: &[u32; 192],
 ) -> Turn
-    requires { ⌜ (k + 52 ≤ length (now buf)) × Words (now words) × (1 ≤ limit) × (last .class ≢ 0) × (last .class ≤ 4) × (next .class ≢ 0) × (last .length + (gap + next .length) < 2 ^ 64) ⌝ }
+    requires { ⌜ (k + 52 ≤ length (now buf)) × Words (now words) × (1 ≤ limit) × (last .class ≢ 0) × (last .class ≤ 4) × (next .class ≢ 0)
+        × (last .length + (gap + next .length) < 2 ^ 64) ⌝ }
     ensures { λ r. ⌜ Turned limit (runToken last) gap (runToken next) (now (buf .entry)) k (now (buf .exit)) r ⌝ }
 {
     if next.class == join_class(limit, last.class, gap) {
@@ -102,7 +103,8 @@ fn three_turns(
     simplified: &mut [u8],
 ) -> Turns
     requires { ⌜ ThreeAsked (first .class) (first .length) (now cs) (now ns) (now words) (now detailed) (now partial) (now simplified) ⌝ }
-    ensures { λ r. ⌜ ThreeOpened (runToken first) (now (cs .entry)) (now (ns .entry)) (now (detailed .entry)) (now (detailed .exit)) (now (partial .entry)) (now (partial .exit)) (now (simplified .entry)) (now (simplified .exit)) r ⌝ }
+    ensures { λ r. ⌜ ThreeOpened (runToken first) (now (cs .entry)) (now (ns .entry)) (now (detailed .entry)) (now (detailed .exit)) (now (partial .entry))
+        (now (partial .exit)) (now (simplified .entry)) (now (simplified .exit)) r ⌝ }
 {
     let mut a = Turn {
         run: first,
@@ -144,7 +146,9 @@ pub fn sn_three(
     simplified: &mut [u8],
 ) -> Three
     requires { ⌜ ThreeAsked (first .class) (first .length) (now cs) (now ns) (now words) (now detailed) (now partial) (now simplified) ⌝ }
-    ensures { λ r. ⌜ ThreeGrown (now (detailed .entry)) (now (detailed .exit)) (now (partial .entry)) (now (partial .exit)) (now (simplified .entry)) (now (simplified .exit)) (snOf 0 (runToken first ∷ paired (now (cs .entry)) (now (ns .entry)))) (snOf 1 (runToken first ∷ paired (now (cs .entry)) (now (ns .entry)))) (snOf 4 (runToken first ∷ paired (now (cs .entry)) (now (ns .entry)))) r ⌝ }
+    ensures { λ r. ⌜ ThreeGrown (now (detailed .entry)) (now (detailed .exit)) (now (partial .entry)) (now (partial .exit)) (now (simplified .entry))
+        (now (simplified .exit)) (snOf 0 (runToken first ∷ paired (now (cs .entry)) (now (ns .entry))))
+        (snOf 1 (runToken first ∷ paired (now (cs .entry)) (now (ns .entry)))) (snOf 4 (runToken first ∷ paired (now (cs .entry)) (now (ns .entry)))) r ⌝ }
 {
     let t = three_turns(cs, ns, first, words, detailed, partial, simplified);
     let a = t.detailed;

@@ -131,7 +131,8 @@ module _ {cs ns : List ℕ} {i : ℕ} (p : TokenPlace cs ns i) (l : i < length c
         (λ h. rw (z, h) (on-gap (eqb-true _ _ z) (ltb-false _ _ h))))
         (λ z. rw (z, le-ltb k 0 (omega arith)) (run-text b k n s c g (left ++ more) (eqb-false _ _ z)))
 
-  pub turn-step : {wide m : ℕ} {t : Bool} (b : Bool) → wide ≡ gapOf c g → g < 4294967296 → m ≡ cond (ltb k wide) 0 (n + g) → t ≡ cond (ltb k wide) false (eqb c 0 || s)
+  pub turn-step : {wide m : ℕ} {t : Bool} (b : Bool) → wide ≡ gapOf c g → g < 4294967296 → m ≡ cond (ltb k wide) 0 (n + g) → t
+      ≡ cond (ltb k wide) false (eqb c 0 || s)
       → Step b k cs ns i n s (cond (ltb k wide) (doneText b n s g) []) (i + 1) m t
   turn-step {wide} b w h e u =
       record {
@@ -170,9 +171,16 @@ module _ (b : Bool) (ls : List ℕ) (ts : List Bool) (gs : List ℕ) (count n : 
 
   -- stored behind the others, and kept or not
   one-more : (shown : Bool) → Long ls ts gs → count < 16
-      → doneTexts b (cond shown (count + 1) count) (set ls count n) (set ts count t) (set gs count g) ≡ doneTexts b count ls ts gs ++ cond shown (doneText b n t g) []
+      → doneTexts b (cond shown (count + 1) count) (set ls count n) (set ts count t) (set gs count g) ≡ doneTexts b count ls ts gs
+      ++ cond shown (doneText b n t g) []
   one-more true h l =
-      rw (add-one, kept count (omega arith), getD-set-same ls count n 0 (omega (arith, h .lengths)), getD-set-same ts count t false (omega (arith, h .stars)), getD-set-same gs count g 0 (omega (arith, h .gaps)))
+      rw (
+        add-one,
+        kept count (omega arith),
+        getD-set-same ls count n 0 (omega (arith, h .lengths)),
+        getD-set-same ts count t false (omega (arith, h .stars)),
+        getD-set-same gs count g 0 (omega (arith, h .gaps)),
+      )
   one-more false h l = rw (kept count (omega arith), append-nil)
 
 pub long-still : {ls : List ℕ} {ts : List Bool} {gs : List ℕ} (i n : ℕ) (t : Bool) (g : ℕ) → Long ls ts gs → Long (set ls i n) (set ts i t) (set gs i g)
@@ -193,11 +201,20 @@ module _ (b : Bool) (ls : List ℕ) (ts : List Bool) (gs : List ℕ) (i : ℕ) {
   abbrev next : List ℕ
   next = doneText b (getD ls i 0) (getD ts i false) (getD gs i 0)
 
-  pub done-room : {n : ℕ} → i < n → Room out (from .place) (take (from .left) old ++ doneTexts b n ls ts gs) → Room mid (to .place) (take (to .left) buf ++ next)
+  pub done-room : {n : ℕ} → i < n → Room out (from .place) (take (from .left) old ++ doneTexts b n ls ts gs)
+      → Room mid (to .place) (take (to .left) buf ++ next)
   done-room {n} l h =
       let zs = take (from .left) old in
       let most = done-more b ls ts gs (suc i) n l in
-      added-room _ a next (record { fits = omega (arith, h .fits, length-append zs (doneTexts b n ls ts gs), length-append zs (doneTexts b (suc i) ls ts gs), most) })
+      added-room _ a next (record {
+        fits = omega (
+          arith,
+          h .fits,
+          length-append zs (doneTexts b n ls ts gs),
+          length-append zs (doneTexts b (suc i) ls ts gs),
+          most,
+        );
+      })
 
   pub done-step : {new last : List ℕ} {full : ℕ} {end : Left} → Grown buf new (to .left) next full → Added new mid (goesOn (to .place) full) [] new last end
       → Added old out from (doneTexts b (i + 1) ls ts gs) new last end
@@ -205,7 +222,8 @@ module _ (b : Bool) (ls : List ℕ) (ts : List Bool) (gs : List ℕ) (i : ℕ) {
 
 -- ---- the loop of `fill`
 
-pub filled-starts : {cs ns : List ℕ} (k n : ℕ) (s : Bool) (ls : List ℕ) (ts : List Bool) (gs : List ℕ) {i : ℕ} → TokenPlace cs ns i → Filled cs ns k i n s i n s 0 ls ts gs
+pub filled-starts : {cs ns : List ℕ} (k n : ℕ) (s : Bool) (ls : List ℕ) (ts : List Bool) (gs : List ℕ) {i : ℕ} → TokenPlace cs ns i
+    → Filled cs ns k i n s i n s 0 ls ts gs
 filled-starts k n s ls ts gs p = record { whole = λ b more. refl; standing = p; few = omega arith; small = omega arith }
 
 module _ {cs ns : List ℕ} {k i n : ℕ} {s : Bool} {j m : ℕ} {t : Bool} {count : ℕ} {ls : List ℕ} {ts : List Bool} {gs : List ℕ}
@@ -217,7 +235,8 @@ module _ {cs ns : List ℕ} {k i n : ℕ} {s : Bool} {j m : ℕ} {t : Bool} {cou
       → Filled cs ns k i n s (j + 1) r u next (set ls count m) (set ts count t) (set gs count (getD ns j 0))
   turned {wide} {r} {u} {next} w a b d =
       let shown = ltb k wide in
-      let z : (f : Bool) → Step f k cs ns j m t (cond shown (doneText f m t (getD ns j 0)) []) (j + 1) r u = λ f. turn-step (p .standing) l k m t f w fits a b in
+      let z : (f : Bool) → Step f k cs ns j m t (cond shown (doneText f m t (getD ns j 0)) []) (j + 1) r u = λ f. turn-step
+      (p .standing) l k m t f w fits a b in
       record {
         whole = λ f more. p .whole f more
             ∙ rw (z f .whole more, d, one-more f ls ts gs count m t (getD ns j 0) shown long room)
@@ -250,7 +269,8 @@ module _ (b : Bool) (k n : ℕ) (s : Bool) (cs ns old out : List ℕ) (from : Le
           let more = h .more in
           let w = p .written in
           let rest = standardFrom b k r u (drop next (paired cs ns) ++ more) in
-          room-first _ rest (rw (append-assoc (take (to .left) buf) xs rest) (added-room (w .done) (w .wrote) _ (rw (w .whole more, f .whole more) at (h .room))))
+          room-first _ rest (rw (append-assoc (take (to .left) buf) xs rest)
+          (added-room (w .done) (w .wrote) _ (rw (w .whole more, f .whole more) at (h .room))))
 
       pub part-step : {buf' new' : List ℕ} {to' : Left} → Added buf new to xs buf' new' to' → Parted buf' new' to' next r u
       part-step h =
@@ -288,7 +308,8 @@ module _ (b : Bool) (k n : ℕ) (s : Bool) (cs ns : List ℕ) where
   counting-starts h = record { standing = standing-first h; small = omega arith; short = omega arith; sum = λ more. omega arith }
 
   module _ {total i m : ℕ} {t : Bool} (p : Counting total i m t) where
-    pub counting-step : {xs : List ℕ} {x sum r : ℕ} {u : Bool} → Step b k cs ns i m t xs (i + 1) r u → Measured xs 47 x → sum ≡ total + x → Counting sum (i + 1) r u
+    pub counting-step : {xs : List ℕ} {x sum r : ℕ} {u : Bool} → Step b k cs ns i m t xs (i + 1) r u → Measured xs 47 x → sum ≡ total + x
+        → Counting sum (i + 1) r u
     counting-step {xs} y h e =
         record {
           standing = y .standing;
@@ -297,7 +318,8 @@ module _ (b : Bool) (k n : ℕ) (s : Bool) (cs ns : List ℕ) where
           sum = λ more. p .sum more ∙ rw (y .whole more, length-append xs _) (omega (arith, h .number, e));
         }
 
-    pub counting-end : length cs ≤ i → PartMeasured (standardPart b k n s cs ns) (standardFrom b k m t) (47 * length cs) total × (m ≤ n + 4294967296 * length cs)
+    pub counting-end : length cs ≤ i → PartMeasured (standardPart b k n s cs ns) (standardFrom b k m t) (47 * length cs) total
+        × (m ≤ n + 4294967296 * length cs)
     counting-end h =
         let w = p .standing .within in
         (record { whole = λ more. p .sum more ∙ rw (none-left cs ns i h); short = omega (arith, p .short) }, omega (arith, p .small))

@@ -47,7 +47,9 @@ pub fn fill(
     gaps: &mut [u32; 16],
 ) -> FillEnd
     requires { ⌜ TokenPlace (now cs) (now ns) i × Long (now lengths) (now stars) (now gaps) × (piece .length ≤ 2 ^ 62 + 2 ^ 52) ⌝ }
-    ensures { λ r. ⌜ Filled (now (cs .entry)) (now (ns .entry)) limit i (piece .length) (piece .starred) (r .next) (r .piece .length) (r .piece .starred) (r .count) (now (lengths .exit)) (now (stars .exit)) (now (gaps .exit)) × Long (now (lengths .exit)) (now (stars .exit)) (now (gaps .exit)) × (r .count ≤ 16) × (i < length (now (cs .entry)) → i < r .next) ⌝ }
+    ensures { λ r. ⌜ Filled (now (cs .entry)) (now (ns .entry)) limit i (piece .length) (piece .starred) (r .next) (r .piece .length) (r .piece .starred)
+        (r .count) (now (lengths .exit)) (now (stars .exit)) (now (gaps .exit)) × Long (now (lengths .exit)) (now (stars .exit)) (now (gaps .exit))
+        × (r .count ≤ 16) × (i < length (now (cs .entry)) → i < r .next) ⌝ }
 {
     let left = cs.len() - i;
     let end = if left < 16 { cs.len() } else { i + 16 };

@@ -44,7 +44,15 @@ module _ {old out : List ℕ} {from : Left} (xs : List ℕ) {buf mid : List ℕ}
   -- how far the text goes
   pub added-next : from .left ≤ length old → to .left ≤ length buf → to .place + to .left ≡ from .place + from .left + length xs
   added-next h g =
-      omega (arith, a .wrote .next, ap {B = ℕ} length (a .all), length-append (a .front) (take (to .left) buf), length-append (take (from .left) old) xs, length-take-le (from .left) old h, length-take-le (to .left) buf g)
+      omega (
+        arith,
+        a .wrote .next,
+        ap {B = ℕ} length (a .all),
+        length-append (a .front) (take (to .left) buf),
+        length-append (take (from .left) old) xs,
+        length-take-le (from .left) old h,
+        length-take-le (to .left) buf g,
+      )
 
   -- room for what stands in the buffer at the end
   pub room-left : Room out (from .place) (take (from .left) old ++ xs) → Room mid (to .place) (take (to .left) buf)
@@ -55,7 +63,8 @@ module _ {buf new : List ℕ} {k : ℕ} (ys : List ℕ) {full : ℕ} (g : Grown 
   pub grown-room : {out : List ℕ} {place : ℕ} (more : List ℕ) → Room out place (take k buf ++ (ys ++ more)) → Room out place (take full new)
   grown-room more r = rw (g .front) (room-first (take k buf ++ ys) more (rw (append-assoc (take k buf) ys more) r))
 
-  pub grown-added : {out last : List ℕ} {place : ℕ} {to : Left} → Added new out (goesOn place full) [] new last to → Added buf out (goesOn place k) ys new last to
+  pub grown-added : {out last : List ℕ} {place : ℕ} {to : Left} → Added new out (goesOn place full) [] new last to
+      → Added buf out (goesOn place k) ys new last to
   grown-added {to = to} f =
       record {
         front = f .front;
@@ -99,7 +108,8 @@ module _ {old out : List ℕ} {from : Left} {whole rest buf new : List ℕ} {to 
   pub ready : {l : ℕ} {table : List ℕ} → Ready old l table → Ready buf (to .left) table
   ready h = added-ready (g .done) (g .sofar) h
 
-  pub on : (chunk last : List ℕ) {buf′ new′ : List ℕ} {to′ : Left} → rest ≡ chunk ++ last → Added buf new to chunk buf′ new′ to′ → Begun old out from whole last buf′ new′ to′
+  pub on : (chunk last : List ℕ) {buf′ new′ : List ℕ} {to′ : Left} → rest ≡ chunk ++ last → Added buf new to chunk buf′ new′ to′
+      → Begun old out from whole last buf′ new′ to′
   on chunk last e a =
       record {
         done = g .done ++ chunk;

@@ -15,7 +15,8 @@ pub struct Three {
 // All three end to end, at a place of the lent slice; the next place is answered.
 pub fn put_three(out: &mut [u8], at: usize, a: &[u8], b: &[u8], c: &[u8], long: Three) -> usize
     requires { ⌜ ThreeRoom (now out) at (now a) (now b) (now c) long ⌝ }
-    ensures { λ r. ⌜ Wrote (now (out .entry)) (now (out .exit)) at (take (long .first) (now (a .entry)) ++ (take (long .second) (now (b .entry)) ++ take (long .third) (now (c .entry)))) r ⌝ }
+    ensures { λ r. ⌜ Wrote (now (out .entry)) (now (out .exit)) at (take (long .first) (now (a .entry))
+        ++ (take (long .second) (now (b .entry)) ++ take (long .third) (now (c .entry)))) r ⌝ }
 {
     let second = put_buffer(out, at, a, long.first);
     let third = put_buffer(out, second, b, long.second);

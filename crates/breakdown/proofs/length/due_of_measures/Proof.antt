@@ -16,7 +16,8 @@ use Rattle.breakdown.proofs.length.due_of_measures.Tie as tie
 
 abbrev Inv-loop : tie.InvT-loop
 Inv-loop m cs₀ ns₀ six₀ tokens₀ i₀ cs ns six tokens i =
-    (length cs ≡ 256) × (length ns ≡ 256) × each (Tallied m i) six × (tokens + length (runs (classes (drop i m))) ≡ length (runs (classes m))) × (tokens ≤ 256 * i)
+    (length cs ≡ 256) × (length ns ≡ 256) × each (Tallied m i) six ×
+    (tokens + length (runs (classes (drop i m))) ≡ length (runs (classes m))) × (tokens ≤ 256 * i)
 
 abbrev μ-loop : tie.MeasureT-loop
 μ-loop m cs₀ ns₀ six₀ tokens₀ i₀ cs ns six tokens i = length m - i
@@ -41,8 +42,20 @@ loop-holds : tie.Need-loop-holds Inv-loop μ-loop
 loop-holds c =
     let p = c .before .before .before .before .before .pre in
     let v = c .before .before .token-at .ensures in
-    let s = c .before .six-first .ensures in
-    (refl, refl, (tally-starts p (omega arith) _ v _ (s .0), tally-starts p (omega arith) _ v _ (s .1), tally-starts p (omega arith) _ v _ (s .2), tally-starts p (omega arith) _ v _ (s .3), tally-starts p (omega arith) _ v _ (s .4), tally-starts p (omega arith) _ v _ (s .5)), first-count p (omega arith) _ v, omega (arith, first-some p (omega arith) _ v))
+    let s = c .before .six-first .ensures in (
+      refl,
+      refl,
+      (
+        tally-starts p (omega arith) _ v _ (s .0),
+        tally-starts p (omega arith) _ v _ (s .1),
+        tally-starts p (omega arith) _ v _ (s .2),
+        tally-starts p (omega arith) _ v _ (s .3),
+        tally-starts p (omega arith) _ v _ (s .4),
+        tally-starts p (omega arith) _ v _ (s .5),
+      ),
+      first-count p (omega arith) _ v,
+      omega (arith, first-some p (omega arith) _ v),
+    )
 
 mul-tokens-into : tie.Need-mul-tokens-into Inv-loop μ-loop
 mul-tokens-into c = search needs
@@ -65,7 +78,8 @@ slice-aggregate-tokens-into-2 c = sym (c .before .before .before .before .loop .
 tokens-into-requires : tie.Need-tokens-into-requires Inv-loop μ-loop
 tokens-into-requires c κs =
     let l = c .before .before .before .before .loop .inv in
-    ahead (l .2 .0 .along) (c .before .before .before .before .before .before .before .before .before .before .pre .few) (omega arith) (l .1 ∙ sym (l .0)) (omega (arith, l .0))
+    ahead (l .2 .0 .along) (c .before .before .before .before .before .before .before .before .before .before .pre .few) (omega arith)
+    (l .1 ∙ sym (l .0)) (omega (arith, l .0))
 
 array-share-prefix-cs : tie.Need-array-share-prefix-cs Inv-loop μ-loop
 array-share-prefix-cs c = search needs
@@ -86,20 +100,41 @@ six-part-requires : tie.Need-six-part-requires Inv-loop μ-loop
 six-part-requires c κs =
     let l = c .before .before .before .before .before .before .before .before .before .loop .inv in
     let g = c .before .before .before .before .tokens-into .ensures in
-    let ready = tally-ready (c .before .before .before .before .before .before .before .before .before .before .before .before .before .before .before .pre .few) g (as-long g (l .0) (l .1)) (most g (l .0)) in
+    let ready = tally-ready (c .before .before .before .before .before .before .before .before .before .before .before .before .before .before .before .pre
+    .few) g (as-long g (l .0) (l .1)) (most g (l .0)) in
     (ready _ _ (l .2 .0), ready _ _ (l .2 .1), ready _ _ (l .2 .2), ready _ _ (l .2 .3), ready _ _ (l .2 .4), ready _ _ (l .2 .5))
 
 add-tokens : tie.Need-add-tokens Inv-loop μ-loop
 add-tokens c =
     let l = c .before .before .before .before .before .before .before .before .before .before .before .loop .inv in
     let g = c .before .before .before .before .before .before .tokens-into .ensures in
-    omega (arith, l .4, l .2 .0 .along .within, g .fits, most g (l .0), c .before .before .before .before .before .before .before .before .before .before .before .before .before .before .before .before .before .pre .few)
+    omega (
+      arith,
+      l .4,
+      l .2 .0 .along .within,
+      g .fits,
+      most g (l .0),
+      c .before .before .before .before .before .before .before .before .before .before .before .before .before .before .before .before .before .pre .few,
+    )
 
 add-i : tie.Need-add-i Inv-loop μ-loop
-add-i c = omega (arith, next-within (c .before .before .before .before .before .before .before .before .before .before .before .before .loop .inv .2 .0 .along) (c .before .before .before .before .before .before .before .tokens-into .ensures), c .before .before .before .before .before .before .before .before .before .before .before .before .before .before .before .before .before .before .pre .few)
+add-i c =
+    omega (
+      arith,
+      next-within (c .before .before .before .before .before .before .before .before .before .before .before .before .loop .inv .2 .0 .along)
+          (c .before .before .before .before .before .before .before .tokens-into .ensures),
+      c .before .before .before .before .before .before .before .before .before .before .before .before
+          .before .before .before .before .before .before .pre .few,
+    )
 
 loop-less : tie.Need-loop-less Inv-loop μ-loop
-loop-less c = omega (arith, next-within (c .before .before .before .before .before .before .before .before .before .before .before .before .loop .inv .2 .0 .along) (c .before .before .before .before .before .before .before .tokens-into .ensures), c .before .before .before .before .before .before .before .tokens-into .ensures .on)
+loop-less c =
+    omega (
+      arith,
+      next-within (c .before .before .before .before .before .before .before .before .before .before .before .before .loop .inv .2 .0 .along)
+          (c .before .before .before .before .before .before .before .tokens-into .ensures),
+      c .before .before .before .before .before .before .before .tokens-into .ensures .on,
+    )
 
 loop-again : tie.Need-loop-again Inv-loop μ-loop
 loop-again c =
@@ -108,8 +143,21 @@ loop-again c =
     let s = c .before .before .six-part .ensures in
     let long = as-long g (l .0) (l .1) in
     let few = most g (l .0) in
-    let on = tally-on (c .before .before .before .before .before .before .before .before .before .before .before .before .before .before .before .before .before .before .pre .few) g long few in
-    (g .longC ∙ l .0, g .longN ∙ l .1, (on _ _ (l .2 .0) _ (s .0), on _ _ (l .2 .1) _ (s .1), on _ _ (l .2 .2) _ (s .2), on _ _ (l .2 .3) _ (s .3), on _ _ (l .2 .4) _ (s .4), on _ _ (l .2 .5) _ (s .5)), on-count (l .2 .0 .along) g long few _ (l .3), omega (arith, l .4, g .fits, g .on))
+    let on = tally-on (c .before .before .before .before .before .before .before .before .before .before .before .before .before .before .before .before .before
+    .before .pre .few) g long few in (
+      g .longC ∙ l .0,
+      g .longN ∙ l .1,
+      (
+        on _ _ (l .2 .0) _ (s .0),
+        on _ _ (l .2 .1) _ (s .1),
+        on _ _ (l .2 .2) _ (s .2),
+        on _ _ (l .2 .3) _ (s .3),
+        on _ _ (l .2 .4) _ (s .4),
+        on _ _ (l .2 .5) _ (s .5),
+      ),
+      on-count (l .2 .0 .along) g long few _ (l .3),
+      omega (arith, l .4, g .fits, g .on),
+    )
 
 six-end-requires : tie.Need-six-end-requires Inv-loop μ-loop
 six-end-requires c κs =
@@ -125,8 +173,20 @@ returns-2 c =
     let l = c .before .before .loop .inv in
     let h = c .before .loop-test .left in
     record {
-      number = omega (arith, l .3, ap {B = ℕ} length (none-left (c .before .before .before .before .before .before .before .before .args .m .now) (c .before .before .loop .i) h));
-      bytes = c .six-end .ensures .number ∙ rw (tally-ends (l .2 .0) h, tally-ends (l .2 .1) h, tally-ends (l .2 .2) h, tally-ends (l .2 .3) h, tally-ends (l .2 .4) h, tally-ends (l .2 .5) h) refl;
+      number = omega (
+        arith,
+        l .3,
+        ap {B = ℕ} length (none-left (c .before .before .before .before .before .before .before .before .args .m .now)
+            (c .before .before .loop .i) h),
+      );
+      bytes = c .six-end .ensures .number ∙ rw (
+        tally-ends (l .2 .0) h,
+        tally-ends (l .2 .1) h,
+        tally-ends (l .2 .2) h,
+        tally-ends (l .2 .3) h,
+        tally-ends (l .2 .4) h,
+        tally-ends (l .2 .5) h,
+      ) refl;
     }
 
 pub due-of-measures-spec : {M : Type 1} → statement M

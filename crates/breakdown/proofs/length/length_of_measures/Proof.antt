@@ -35,7 +35,12 @@ cast-i : tie.Need-cast-i Inv-loop μ-loop
 cast-i c = search needs
 
 loop-holds : tie.Need-loop-holds Inv-loop μ-loop
-loop-holds c = (refl, refl, tally-starts (c .before .before .before .before .before .pre) (omega arith) _ (c .before .before .token-at .ensures) _ (c .before .first-tally .ensures))
+loop-holds c = (
+  refl,
+  refl,
+  tally-starts (c .before .before .before .before .before .pre) (omega arith) _ (c .before .before .token-at .ensures) _
+      (c .before .first-tally .ensures),
+)
 
 mul-tokens-into : tie.Need-mul-tokens-into Inv-loop μ-loop
 mul-tokens-into c = search needs
@@ -58,7 +63,8 @@ slice-aggregate-tokens-into-2 c = sym (c .before .before .before .before .loop .
 tokens-into-requires : tie.Need-tokens-into-requires Inv-loop μ-loop
 tokens-into-requires c κs =
     let l = c .before .before .before .before .loop .inv in
-    ahead (l .2 .along) (c .before .before .before .before .before .before .before .before .before .before .pre .few) (omega arith) (l .1 ∙ sym (l .0)) (omega (arith, l .0))
+    ahead (l .2 .along) (c .before .before .before .before .before .before .before .before .before .before .pre .few) (omega arith)
+    (l .1 ∙ sym (l .0)) (omega (arith, l .0))
 
 array-share-prefix-cs : tie.Need-array-share-prefix-cs Inv-loop μ-loop
 array-share-prefix-cs c = search needs
@@ -79,19 +85,36 @@ tally-part-requires : tie.Need-tally-part-requires Inv-loop μ-loop
 tally-part-requires c κs =
     let l = c .before .before .before .before .before .before .before .before .before .loop .inv in
     let g = c .before .before .before .before .tokens-into .ensures in
-    tally-ready (c .before .before .before .before .before .before .before .before .before .before .before .before .before .before .before .pre .few) g (as-long g (l .0) (l .1)) (most g (l .0)) _ (l .2)
+    tally-ready (c .before .before .before .before .before .before .before .before .before .before .before .before .before .before .before .pre .few) g
+    (as-long g (l .0) (l .1)) (most g (l .0)) _ (l .2)
 
 add-i : tie.Need-add-i Inv-loop μ-loop
-add-i c = omega (arith, next-within (c .before .before .before .before .before .before .before .before .before .before .before .loop .inv .2 .along) (c .before .before .before .before .before .before .tokens-into .ensures), c .before .before .before .before .before .before .before .before .before .before .before .before .before .before .before .before .before .pre .few)
+add-i c =
+    omega (
+      arith,
+      next-within (c .before .before .before .before .before .before .before .before .before .before .before .loop .inv .2 .along)
+          (c .before .before .before .before .before .before .tokens-into .ensures),
+      c .before .before .before .before .before .before .before .before .before .before .before .before .before .before .before .before .before .pre .few,
+    )
 
 loop-less : tie.Need-loop-less Inv-loop μ-loop
-loop-less c = omega (arith, next-within (c .before .before .before .before .before .before .before .before .before .before .before .loop .inv .2 .along) (c .before .before .before .before .before .before .tokens-into .ensures), c .before .before .before .before .before .before .tokens-into .ensures .on)
+loop-less c =
+    omega (
+      arith,
+      next-within (c .before .before .before .before .before .before .before .before .before .before .before .loop .inv .2 .along)
+          (c .before .before .before .before .before .before .tokens-into .ensures),
+      c .before .before .before .before .before .before .tokens-into .ensures .on,
+    )
 
 loop-again : tie.Need-loop-again Inv-loop μ-loop
 loop-again c =
     let l = c .before .before .before .before .before .before .before .before .before .before .before .loop .inv in
-    let g = c .before .before .before .before .before .before .tokens-into .ensures in
-    (g .longC ∙ l .0, g .longN ∙ l .1, tally-on (c .before .before .before .before .before .before .before .before .before .before .before .before .before .before .before .before .before .pre .few) g (as-long g (l .0) (l .1)) (most g (l .0)) _ (l .2) (c .before .tally-part .ensures))
+    let g = c .before .before .before .before .before .before .tokens-into .ensures in (
+      g .longC ∙ l .0,
+      g .longN ∙ l .1,
+      tally-on (c .before .before .before .before .before .before .before .before .before .before .before .before .before
+          .before .before .before .before .pre .few) g (as-long g (l .0) (l .1)) (most g (l .0)) _ (l .2) (c .before .tally-part .ensures),
+    )
 
 tally-end-requires : tie.Need-tally-end-requires Inv-loop μ-loop
 tally-end-requires c κs = tally-short (c .before .before .before .before .before .before .before .pre .few) (c .before .loop .inv .2)

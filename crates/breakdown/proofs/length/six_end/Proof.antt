@@ -24,7 +24,17 @@ tally-end-requires-6 : tie.Need-tally-end-requires-6
 tally-end-requires-6 c κs = search needs
 
 returns : tie.Need-returns
-returns c = record { number = rw (c .before .before .before .before .before .tally-end .ensures, c .before .before .before .before .tally-end2 .ensures, c .before .before .before .tally-end3 .ensures, c .before .before .tally-end4 .ensures, c .before .tally-end5 .ensures, c .tally-end6 .ensures) refl }
+returns c =
+    record {
+      number = rw (
+        c .before .before .before .before .before .tally-end .ensures,
+        c .before .before .before .before .tally-end2 .ensures,
+        c .before .before .before .tally-end3 .ensures,
+        c .before .before .tally-end4 .ensures,
+        c .before .tally-end5 .ensures,
+        c .tally-end6 .ensures,
+      ) refl;
+    }
 
 pub six-end-spec : {M : Type 1} → statement M
 six-end-spec =

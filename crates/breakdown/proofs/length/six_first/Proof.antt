@@ -42,9 +42,12 @@ first-tally-requires-6 c κs = c .before .before .before .before .before .before
 
 returns : tie.Need-returns
 returns c = (
-  rw (c .before .before .before .before .before .before .before .before .before .before .before .sn-form .ensures) at (c .before .before .before .before .before .before .before .before .before .before .first-tally .ensures),
-  rw (c .before .before .before .before .before .before .before .before .before .sn-form2 .ensures) at (c .before .before .before .before .before .before .before .before .first-tally2 .ensures),
-  rw (c .before .before .before .before .before .before .before .sn-form3 .ensures) at (c .before .before .before .before .before .before .first-tally3 .ensures),
+  rw (c .before .before .before .before .before .before .before .before .before .before .before .sn-form .ensures) at
+      (c .before .before .before .before .before .before .before .before .before .before .first-tally .ensures),
+  rw (c .before .before .before .before .before .before .before .before .before .sn-form2 .ensures) at
+      (c .before .before .before .before .before .before .before .before .first-tally2 .ensures),
+  rw (c .before .before .before .before .before .before .before .sn-form3 .ensures) at
+      (c .before .before .before .before .before .before .first-tally3 .ensures),
   rw (c .before .before .before .before .before .standard-form .ensures) at (c .before .before .before .before .first-tally4 .ensures),
   rw (c .before .before .before .standard-form2 .ensures) at (c .before .before .first-tally5 .ensures),
   rw (c .before .standard-form3 .ensures) at (c .first-tally6 .ensures),

@@ -38,13 +38,17 @@ standard-form-requires-3 : tie.Need-standard-form-requires-3
 standard-form-requires-3 c κs = search needs
 
 tally-part-requires-6 : tie.Need-tally-part-requires-6
-tally-part-requires-6 c κs = rw (c .standard-form3 .ensures) (c .before .before .before .before .before .before .before .before .before .before .before .before .before .pre .5)
+tally-part-requires-6 c κs =
+    rw (c .standard-form3 .ensures) (c .before .before .before .before .before .before .before .before .before .before .before .before .before .pre .5)
 
 returns : tie.Need-returns
 returns c = (
-  rw (c .before .before .before .before .before .before .before .before .before .before .before .sn-form .ensures) at (c .before .before .before .before .before .before .before .before .before .before .tally-part .ensures),
-  rw (c .before .before .before .before .before .before .before .before .before .sn-form2 .ensures) at (c .before .before .before .before .before .before .before .before .tally-part2 .ensures),
-  rw (c .before .before .before .before .before .before .before .sn-form3 .ensures) at (c .before .before .before .before .before .before .tally-part3 .ensures),
+  rw (c .before .before .before .before .before .before .before .before .before .before .before .sn-form .ensures) at
+      (c .before .before .before .before .before .before .before .before .before .before .tally-part .ensures),
+  rw (c .before .before .before .before .before .before .before .before .before .sn-form2 .ensures) at
+      (c .before .before .before .before .before .before .before .before .tally-part2 .ensures),
+  rw (c .before .before .before .before .before .before .before .sn-form3 .ensures) at
+      (c .before .before .before .before .before .before .tally-part3 .ensures),
   rw (c .before .before .before .before .before .standard-form .ensures) at (c .before .before .before .before .tally-part4 .ensures),
   rw (c .before .before .before .standard-form2 .ensures) at (c .before .before .tally-part5 .ensures),
   rw (c .before .standard-form3 .ensures) at (c .tally-part6 .ensures),

@@ -11,13 +11,15 @@ use Rattle.breakdown.specs.Forms.{textOf, openText}
 use Rattle.text_buffer.specs.Buffer.{goesOn}
 use Rattle.text_buffer.proofs.Added as Text
 use Rattle.text_buffer.proofs.Added.{added-out, grown-only}
-use Rattle.breakdown.proofs.PartByPart.{Along, no-measures, none-short, rest, first-class, first-along, first-text, ahead, part-tokens, on, on-text, next-within, as-long, most, at-end}
+use Rattle.breakdown.proofs.PartByPart.{Along, no-measures, none-short, rest, first-class, first-along, first-text, ahead}
+use Rattle.breakdown.proofs.PartByPart.{part-tokens, on, on-text, next-within, as-long, most, at-end}
 use Rattle.breakdown.proofs.text.measures_text.Statement.{statement}
 use Rattle.breakdown.proofs.text.measures_text.Tie as tie
 
 abbrev Inv-loop : tie.InvT-loop
 Inv-loop m form words buf₀ out₀ at cs₀ ns₀ run₀ to₀ i₀ buf out cs ns run to i =
-    (length cs ≡ 256) × (length ns ≡ 256) × Along m form run i × Text.Begun buf₀ out₀ (goesOn at 0) (textOf form (runs (classes m))) (openText form run (runs (classes (drop i m)))) buf out to
+    (length cs ≡ 256) × (length ns ≡ 256) × Along m form run i × Text.Begun buf₀ out₀ (goesOn at 0) (textOf form (runs (classes m)))
+    (openText form run (runs (classes (drop i m)))) buf out to
 
 abbrev μ-loop : tie.MeasureT-loop
 μ-loop m form words buf₀ out₀ at cs₀ ns₀ run₀ to₀ i₀ buf out cs ns run to i = length m - i
@@ -31,7 +33,8 @@ same-length c = search needs
 returns : tie.Need-returns Inv-loop μ-loop
 returns c =
     let g = c .before .before .add-none .ensures in
-    rw (no-measures _ _ (c .before .before .before .before .if1 .taken)) (grown-only _ g (omega (arith, g .next, none-short (c .before .before .before .before .before .before .before .before .args .form))))
+    rw (no-measures _ _ (c .before .before .before .before .if1 .taken))
+    (grown-only _ g (omega (arith, g .next, none-short (c .before .before .before .before .before .before .before .before .args .form))))
 
 token-at-requires : tie.Need-token-at-requires Inv-loop μ-loop
 token-at-requires c κs = search needs
@@ -46,8 +49,12 @@ loop-holds : tie.Need-loop-holds Inv-loop μ-loop
 loop-holds c =
     let s = c .before .before .before .before .before .before .before in
     let t = c .before .before .token-at .ensures in
-    let g = c .before .first-run .ensures in
-    (refl, refl, first-along (s .pre .0) (omega arith) _ t (s .args .form) g, rw (first-text (s .pre .0) (omega arith) _ t (s .args .form) g) (Text.begins (omega arith)))
+    let g = c .before .first-run .ensures in (
+      refl,
+      refl,
+      first-along (s .pre .0) (omega arith) _ t (s .args .form) g,
+      rw (first-text (s .pre .0) (omega arith) _ t (s .args .form) g) (Text.begins (omega arith)),
+    )
 
 mul-tokens-into : tie.Need-mul-tokens-into Inv-loop μ-loop
 mul-tokens-into c = search needs
@@ -70,7 +77,8 @@ slice-aggregate-tokens-into-2 c = sym (c .before .before .before .before .loop .
 tokens-into-requires : tie.Need-tokens-into-requires Inv-loop μ-loop
 tokens-into-requires c κs =
     let l = c .before .before .before .before .loop .inv in
-    ahead (l .2) (c .before .before .before .before .before .before .before .before .before .before .before .before .pre .0 .few) (omega arith) (l .1 ∙ sym (l .0)) (omega (arith, l .0))
+    ahead (l .2) (c .before .before .before .before .before .before .before .before .before .before .before .before .pre .0 .few) (omega arith)
+    (l .1 ∙ sym (l .0)) (omega (arith, l .0))
 
 array-share-prefix-cs : tie.Need-array-share-prefix-cs Inv-loop μ-loop
 array-share-prefix-cs c = search needs
@@ -89,7 +97,8 @@ slice-aggregate-form-part-2 c =
 
 form-part-requires : tie.Need-form-part-requires Inv-loop μ-loop
 form-part-requires c κs =
-    let s = c .before .before .before .before .before .before .before .before .before .before .before .before .before .before .before .before .before .before .before in
+    let s = c .before .before .before .before .before .before .before .before .before .before .before .before .before .before .before .before
+    .before .before .before in
     let l = c .before .before .before .before .before .before .before .before .before .before .before .loop .inv in
     let g = c .before .before .before .before .before .before .tokens-into .ensures in (
       part-tokens (l .2) g (as-long g (l .0) (l .1)) (most g (l .0)),
@@ -100,16 +109,30 @@ form-part-requires c κs =
     )
 
 add-i : tie.Need-add-i Inv-loop μ-loop
-add-i c = omega (arith, next-within (c .before .before .before .before .before .before .before .before .before .before .before .before .before .before .before .before .before .before .before .loop .inv .2) (c .before .before .before .before .before .before .before .before .before .before .before .before .before .before .tokens-into .ensures), c .before .before .before .before .before .before .before .before .before .before .before .before .before .before .before .before .before .before .before .before .before .before .before .before .before .before .before .pre .0 .few)
+add-i c =
+    omega (
+      arith,
+      next-within (c .before .before .before .before .before .before .before .before .before .before .before .before .before .before .before .before
+          .before .before .before .loop .inv .2)
+          (c .before .before .before .before .before .before .before .before .before .before .before .before .before .before .tokens-into .ensures),
+      c .before .before .before .before .before .before .before .before .before .before .before .before .before .before .before .before
+          .before .before .before .before .before .before .before .before .before .before .before .pre .0 .few,
+    )
 
 loop-less : tie.Need-loop-less Inv-loop μ-loop
 loop-less c =
     let g = c .before .before .before .before .before .before .before .before .before .before .before .before .before .before .tokens-into .ensures in
-    omega (arith, next-within (c .before .before .before .before .before .before .before .before .before .before .before .before .before .before .before .before .before .before .before .loop .inv .2) g, g .on)
+    omega (
+      arith,
+      next-within (c .before .before .before .before .before .before .before .before .before .before .before .before .before .before .before .before
+          .before .before .before .loop .inv .2) g,
+      g .on,
+    )
 
 loop-again : tie.Need-loop-again Inv-loop μ-loop
 loop-again c =
-    let l = c .before .before .before .before .before .before .before .before .before .before .before .before .before .before .before .before .before .before .before .loop .inv in
+    let l = c .before .before .before .before .before .before .before .before .before .before .before .before .before .before .before .before .before
+    .before .before .loop .inv in
     let g = c .before .before .before .before .before .before .before .before .before .before .before .before .before .before .tokens-into .ensures in
     let w = c .before .before .before .before .before .before .before .form-part .ensures in
     let e = on-text (l .2) g (w .0 .done) (c .before .before .before .before .before .before .before .form-part .result .run) (w .0 .whole) in
@@ -124,7 +147,8 @@ add-last-requires c κs =
 written : tie.Need-returns-2 Inv-loop μ-loop
 written c =
     let l = c .before .before .before .before .before .before .before .before .loop .inv in
-    Text.ends (rw (at-end (l .2) (c .before .before .before .before .before .before .before .loop-test .left)) at (l .3)) (c .before .before .before .before .add-last .ensures)
+    Text.ends (rw (at-end (l .2) (c .before .before .before .before .before .before .before .loop-test .left)) at (l .3))
+    (c .before .before .before .before .add-last .ensures)
 
 same-length-2 : tie.Need-same-length-2 Inv-loop μ-loop
 same-length-2 c = search needs

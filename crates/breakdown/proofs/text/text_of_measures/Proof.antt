@@ -14,7 +14,12 @@ slice-aggregate-measures-text : tie.Need-slice-aggregate-measures-text
 slice-aggregate-measures-text c = refl
 
 measures-text-requires : tie.Need-measures-text-requires
-measures-text-requires c κs = let s = c .before .before .before .before .before .before in (s .pre .0, record { long = omega arith; few = omega arith; words = c .before .before .before .words .ensures }, s .pre .1)
+measures-text-requires c κs =
+    let s = c .before .before .before .before .before .before in (
+      s .pre .0,
+      record { long = omega arith; few = omega arith; words = c .before .before .before .words .ensures },
+      s .pre .1,
+    )
 
 slice-aggregate-put-buffer : tie.Need-slice-aggregate-put-buffer
 slice-aggregate-put-buffer c = sym (c .before .before .before .before .before .measures-text .ensures .long)

@@ -20,7 +20,8 @@ whole : (c : tie.After-text-part) →
 whole c =
     let s = c .before .before .before .before .before .before .before .before .before .before .before .before .before in
     let w = c .text-part .ensures in
-    tokens-all (s .pre .0) (c .before .before .before .before .before .before .before .before .if1 .left) (s .args .form) (c .before .before .before .before .before .first-run .ensures) (w .0 .done) (w .1 .run) (w .0 .whole)
+    tokens-all (s .pre .0) (c .before .before .before .before .before .before .before .before .if1 .left) (s .args .form)
+    (c .before .before .before .before .before .first-run .ensures) (w .0 .done) (w .1 .run) (w .0 .whole)
 
 add-none-requires : tie.Need-add-none-requires
 add-none-requires c κs = let s = c .before .before .before .before .before .before in omega (arith, s .pre .1 .few, s .pre .1 .long)
@@ -30,7 +31,11 @@ flush-requires c κs =
     let s = c .before .before .before .before .before .before .before .before .before .before .before in
     let g = c .before .before .before .before .add-none .ensures in (
       within _ (omega (arith, s .pre .1 .few, s .pre .1 .long)) g,
-      grown-room _ g [] (rw (append-nil, ← (none-text (s .pre .0) (s .args .form) (c .before .before .before .before .before .before .if1 .taken))) (s .pre .2)),
+      grown-room _ g [] (rw (
+        append-nil,
+        ← (none-text (s .pre .0) (s .args .form)
+            (c .before .before .before .before .before .before .if1 .taken)),
+      ) (s .pre .2)),
     )
 
 same-length : tie.Need-same-length
@@ -42,7 +47,8 @@ same-length-2 c = search needs
 returns : tie.Need-returns
 returns c =
     let s = c .before .before .before .before .before .before .before .before .before .before .before .before .before .before in
-    rw (none-text (s .pre .0) (s .args .form) (c .before .before .before .before .before .before .before .before .before .if1 .taken)) (grown-added _ (c .before .before .before .before .before .before .before .add-none .ensures) (c .before .before .flush .ensures))
+    rw (none-text (s .pre .0) (s .args .form) (c .before .before .before .before .before .before .before .before .before .if1 .taken))
+    (grown-added _ (c .before .before .before .before .before .before .before .add-none .ensures) (c .before .before .flush .ensures))
 
 shared-slice-read-first-run : tie.Need-shared-slice-read-first-run
 shared-slice-read-first-run c = search needs
@@ -75,12 +81,18 @@ text-part-requires : tie.Need-text-part-requires
 text-part-requires c κs =
     let s = c .before .before .before .before .before .before .before .before .before .before .before .before in
     let g = c .before .before .before .before .first-run .ensures in
-    let h = c .before .before .before .before .before .before .before .if1 .left in
-    (tokens-behind (s .pre .0) h (s .args .form) g, g .run, omega (arith, g .long, g .small), s .pre .1, record { more = []; room = rw (tokens-text (s .pre .0) h (s .args .form) g) at (s .pre .2) })
+    let h = c .before .before .before .before .before .before .before .if1 .left in (
+      tokens-behind (s .pre .0) h (s .args .form) g,
+      g .run,
+      omega (arith, g .long, g .small),
+      s .pre .1,
+      record { more = []; room = rw (tokens-text (s .pre .0) h (s .args .form) g) at (s .pre .2) },
+    )
 
 add-last-requires : tie.Need-add-last-requires
 add-last-requires c κs =
-    let s = c .before .before .before .before .before .before .before .before .before .before .before .before .before .before .before .before .before .before .before in
+    let s = c .before .before .before .before .before .before .before .before .before .before .before .before .before .before .before .before
+    .before .before .before in
     let e = c .before .before .before .before .before .before .text-part .ensures in
     let w = e .0 .wrote in
     (added-ready _ w (s .pre .1), e .1 .run .low, added-room _ w _ (rw (whole (c .before .before .before .before .before .before)) at (s .pre .2)))
@@ -92,7 +104,9 @@ same-length-4 : tie.Need-same-length-4
 same-length-4 c = search needs
 
 returns-2 : tie.Need-returns-2
-returns-2 c = let t = c .before .before .before .before .before .before .before .before .before .before .before in rw (whole t) (added _ (t .text-part .ensures .0 .wrote) _ (c .before .before .before .before .add-last .ensures))
+returns-2 c =
+    let t = c .before .before .before .before .before .before .before .before .before .before .before
+    in rw (whole t) (added _ (t .text-part .ensures .0 .wrote) _ (c .before .before .before .before .add-last .ensures))
 
 pub text-of-tokens-spec : {M : Type 1} → statement M
 text-of-tokens-spec =

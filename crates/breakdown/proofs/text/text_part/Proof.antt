@@ -49,8 +49,10 @@ written c =
     let s = c .before .before .before .before .before .before .before .before .before .args in
     let e = c .before .before .before .before .if1 .left in
     ⊎-elim
-    (λ w. rw (c .piece-run .ensures, w .8, w .9, w .10) (piece-part (formWith (s .sn) (s .limit) (s .signs)) (s .run) (s .cs .now) (s .ns .now) e (w .3 .result .piece) (w .3 .ensures)))
-    (λ w. rw (c .piece-run .ensures, w .8, w .9, w .10) (piece-part (formWith (s .sn) (s .limit) (s .signs)) (s .run) (s .cs .now) (s .ns .now) e (w .3 .result .piece) (w .3 .ensures)))
+    (λ w. rw (c .piece-run .ensures, w .8, w .9, w .10) (piece-part (formWith (s .sn) (s .limit) (s .signs)) (s .run) (s .cs .now) (s .ns .now) e
+    (w .3 .result .piece) (w .3 .ensures)))
+    (λ w. rw (c .piece-run .ensures, w .8, w .9, w .10) (piece-part (formWith (s .sn) (s .limit) (s .signs)) (s .run) (s .cs .now) (s .ns .now) e
+    (w .3 .result .piece) (w .3 .ensures)))
     (c .before .before .before .if2 .came)
 
 same-length-3 : tie.Need-same-length-3

@@ -17,7 +17,14 @@ fits : (c : tie.After-add-ended) → c .add-ended .result + 4 ≤ length (c .add
 fits c =
     let w = c .before .with-break .result in
     let g = c .add-ended .ensures in
-    omega (arith, c .before .before .before .before .pre .0, g .next, g .long, length-append (runText w) (32 ∷ []), run-short (w .class) (w .length) (w .starred) (omega arith))
+    omega (
+      arith,
+      c .before .before .before .before .pre .0,
+      g .next,
+      g .long,
+      length-append (runText w) (32 ∷ []),
+      run-short (w .class) (w .length) (w .starred) (omega arith),
+    )
 
 with-break-requires : tie.Need-with-break-requires
 with-break-requires c κs = search needs
@@ -38,8 +45,13 @@ returns : tie.Need-returns
 returns c =
     let s = c .before .before .before .before .before .before .before .before .before .before .before .before in
     let w = c .before .before .before .before .before .before .before .before .before .with-break in
-    rw (w .ensures .shows, group-long (s .args .limit) (w .result .class) (w .result .length) (w .result .starred) (s .args .gap) (w .ensures .run) (s .pre .2) (c .if1 .taken))
-    (grown _ _ (c .before .before .before .before .before .before .before .before .add-ended .ensures) (worded (c .before .before .before .before .sign-word .ensures) (c .before .before .before .add-word .ensures)))
+    rw (
+      w .ensures .shows,
+      group-long (s .args .limit) (w .result .class) (w .result .length) (w .result .starred) (s .args .gap) (w .ensures .run)
+          (s .pre .2) (c .if1 .taken),
+    )
+    (grown _ _ (c .before .before .before .before .before .before .before .before .add-ended .ensures)
+    (worded (c .before .before .before .before .sign-word .ensures) (c .before .before .before .add-word .ensures)))
 
 same-length-2 : tie.Need-same-length-2
 same-length-2 c = search needs
@@ -49,7 +61,8 @@ returns-2 c =
     let a = c .before .before .before .before .before .before .before .before .before .before .before .before .args in
     let w = c .before .before .before .before .before .before .before .before .before .with-break in
     rw (w .ensures .shows, group-short (a .limit) (w .result .class) (w .result .length) (w .result .starred) (a .gap) (w .ensures .run) (c .if1 .left))
-    (rw append-nil at (grown _ [] (c .before .before .before .before .before .before .before .before .add-ended .ensures) (dropped _ (omega (arith, fits (c .before .before .before .before .before .before .before .before))) (c .before .before .before .add-word .ensures))))
+    (rw append-nil at (grown _ [] (c .before .before .before .before .before .before .before .before .add-ended .ensures)
+    (dropped _ (omega (arith, fits (c .before .before .before .before .before .before .before .before))) (c .before .before .before .add-word .ensures))))
 
 pub add-group-spec : {M : Type 1} → statement M
 add-group-spec =

@@ -22,7 +22,8 @@ loop-holds : tie.Need-loop-holds Inv-loop μ-loop
 loop-holds c = let p = c .before .before .before .before .pre in writing-starts _ _ _ _ _ (p .1 .tokens) (p .1 .ready .few)
 
 next-run-requires : tie.Need-next-run-requires Inv-loop μ-loop
-next-run-requires c κs = opened-at (c .before .loop .inv .opened) (c .before .before .before .before .before .before .pre .1 .tokens .long) (c .loop-test .taken)
+next-run-requires c κs =
+    opened-at (c .before .loop .inv .opened) (c .before .before .before .before .before .before .pre .1 .tokens .long) (c .loop-test .taken)
 
 join-class-requires : tie.Need-join-class-requires Inv-loop μ-loop
 join-class-requires c κs = search needs
@@ -46,8 +47,14 @@ add-group-requires : tie.Need-add-group-requires Inv-loop μ-loop
 add-group-requires c κs =
     let w = c .before .before .before .before .before .before .loop .inv in
     let o = w .opened in
-    let p = c .before .before .before .before .before .before .before .before .before .before .before .pre in
-    (omega (arith, w .wrote .long, w .wrote .few, p .1 .ready .long), p .1 .ready .words, p .0, o .run, opened-low o, omega (arith, o .small, o .within, p .1 .tokens .few, p .1 .short))
+    let p = c .before .before .before .before .before .before .before .before .before .before .before .pre in (
+      omega (arith, w .wrote .long, w .wrote .few, p .1 .ready .long),
+      p .1 .ready .words,
+      p .0,
+      o .run,
+      opened-low o,
+      omega (arith, o .small, o .within, p .1 .tokens .few, p .1 .short),
+    )
 
 flush-requires : tie.Need-flush-requires Inv-loop μ-loop
 flush-requires c κs =
@@ -55,7 +62,9 @@ flush-requires c κs =
     let p = c .before .before .before .before .before .before .before .before .before .before .before .before .before .before .before .before .pre in
     let g = c .before .before .before .before .add-group .ensures in (
       within _ (omega (arith, w .wrote .long, w .wrote .few, p .1 .ready .long)) g,
-      writing-room w (c .before .before .before .before .before .before .before .before .before .next-run .ensures) (λ e. c .before .before .before .before .before .before .if1 .left (e ∙ sym (c .before .before .before .before .before .before .before .before .join-class .ensures))) (omega arith) g (p .1 .room),
+      writing-room w (c .before .before .before .before .before .before .before .before .before .next-run .ensures)
+          (λ e. c .before .before .before .before .before .before .if1 .left
+          (e ∙ sym (c .before .before .before .before .before .before .before .before .join-class .ensures))) (omega arith) g (p .1 .room),
     )
 
 open-run-requires : tie.Need-open-run-requires Inv-loop μ-loop
@@ -66,15 +75,23 @@ loop-less c = let a = c .before .before .before .before .before .before .next-ru
 
 loop-again : tie.Need-loop-again Inv-loop μ-loop
 loop-again c =
-    writing-joins (c .before .before .before .before .before .before .before .before .loop .inv) (c .before .before .before .before .before .before .next-run .ensures) (c .before .before .before .if1 .taken ∙ c .before .before .before .before .before .join-class .ensures) (omega arith) (omega arith)
+    writing-joins (c .before .before .before .before .before .before .before .before .loop .inv)
+    (c .before .before .before .before .before .before .next-run .ensures)
+    (c .before .before .before .if1 .taken ∙ c .before .before .before .before .before .join-class .ensures) (omega arith) (omega arith)
 
 loop-less-2 : tie.Need-loop-less-2 Inv-loop μ-loop
-loop-less-2 c = let a = c .before .before .before .before .before .before .before .before .before .before .before .before .before .next-run .ensures in omega (arith, a .on, a .within)
+loop-less-2 c =
+    let a = c .before .before .before .before .before .before .before .before .before .before .before .before .before .next-run .ensures
+    in omega (arith, a .on, a .within)
 
 loop-again-2 : tie.Need-loop-again-2 Inv-loop μ-loop
 loop-again-2 c =
     rw (c .open-run .ensures)
-    (writing-next (c .before .before .before .before .before .before .before .before .before .before .before .before .before .before .before .loop .inv) (c .before .before .before .before .before .before .before .before .before .before .before .before .before .next-run .ensures) (λ e. c .before .before .before .before .before .before .before .before .before .before .if1 .left (e ∙ sym (c .before .before .before .before .before .before .before .before .before .before .before .before .join-class .ensures))) (omega arith) (c .before .before .before .before .before .before .before .before .add-group .ensures) (c .before .before .before .flush .ensures))
+    (writing-next (c .before .before .before .before .before .before .before .before .before .before .before .before .before .before .before .loop .inv)
+    (c .before .before .before .before .before .before .before .before .before .before .before .before .before .next-run .ensures)
+    (λ e. c .before .before .before .before .before .before .before .before .before .before .if1 .left
+    (e ∙ sym (c .before .before .before .before .before .before .before .before .before .before .before .before .join-class .ensures))) (omega arith)
+    (c .before .before .before .before .before .before .before .before .add-group .ensures) (c .before .before .before .flush .ensures))
 
 same-length : tie.Need-same-length Inv-loop μ-loop
 same-length c = c .before .loop .inv .wrote .long

@@ -25,16 +25,24 @@ sub-last : tie.Need-sub-last Inv-loop μ-loop
 sub-last c = search needs
 
 add-ended-requires : tie.Need-add-ended-requires Inv-loop μ-loop
-add-ended-requires c κs = let p = c .before .before .before .before .before .before .pre in (omega (arith, p .ready .long, p .ready .few), p .ready .words, tokens-low (p .tokens))
+add-ended-requires c κs =
+    let p = c .before .before .before .before .before .before .pre in (omega (arith, p .ready .long, p .ready .few), p .ready .words, tokens-low (p .tokens))
 
 flush-requires : tie.Need-flush-requires Inv-loop μ-loop
 flush-requires c κs =
     let p = c .before .before .before .before .before .before .before .before .before .before .before .pre in
-    let g = c .before .before .before .before .add-ended .ensures in
-    (within _ (omega (arith, p .ready .long, p .ready .few)) g, first-room _ _ _ (p .tokens) (c .before .before .before .before .before .before .if1 .left) g (p .room))
+    let g = c .before .before .before .before .add-ended .ensures in (
+      within _ (omega (arith, p .ready .long, p .ready .few)) g,
+      first-room _ _ _ (p .tokens)
+          (c .before .before .before .before .before .before .if1 .left) g (p .room),
+    )
 
 loop-holds : tie.Need-loop-holds Inv-loop μ-loop
-loop-holds c = (omega arith, listing-starts _ _ _ _ _ _ (c .before .before .before .before .before .before .before .before .before .before .before .before .before .before .pre .tokens .behind) (c .before .before .flush .ensures .few))
+loop-holds c = (
+  omega arith,
+  listing-starts _ _ _ _ _ _ (c .before .before .before .before .before .before .before .before .before .before .before .before .before .before
+      .pre .tokens .behind) (c .before .before .flush .ensures .few),
+)
 
 shared-slice-read-add-token : tie.Need-shared-slice-read-add-token Inv-loop μ-loop
 shared-slice-read-add-token c = search needs
@@ -49,23 +57,46 @@ add-token-requires : tie.Need-add-token-requires Inv-loop μ-loop
 add-token-requires c κs =
     let i = c .before .before .before .before .loop .inv .1 in
     let a = i .wrote in
-    let p = c .before .before .before .before .before .before .before .before .before .before .before .before .before .before .before .before .before .before .before .pre in
-    (omega (arith, a .long, a .few, c .before .before .before .before .before .before .before .before .before .before .before .before .add-ended .ensures .long, p .ready .long), p .ready .words, listing-low i (p .tokens .long) (omega (arith, c .before .before .before .loop-test .taken)))
+    let p = c .before .before .before .before .before .before .before .before .before .before .before .before .before .before .before .before
+    .before .before .before .pre in (
+      omega (
+        arith,
+        a .long,
+        a .few,
+        c .before .before .before .before .before .before .before .before .before .before .before .before .add-ended .ensures .long,
+        p .ready .long,
+      ),
+      p .ready .words,
+      listing-low i (p .tokens .long) (omega (arith, c .before .before .before .loop-test .taken)),
+    )
 
 flush-requires-2 : tie.Need-flush-requires-2 Inv-loop μ-loop
 flush-requires-2 c κs =
     let w = c .before .before .before .before .before .before .before .before .before .loop .inv .1 in
-    let p = c .before .before .before .before .before .before .before .before .before .before .before .before .before .before .before .before .before .before .before .before .before .before .before .before .pre in
+    let p = c .before .before .before .before .before .before .before .before .before .before .before .before .before .before .before .before .before .before
+    .before .before .before .before .before .before .pre in
     let g = c .before .before .before .before .add-token .ensures in
-    let e = c .before .before .before .before .before .before .before .before .before .before .before .before .before .before .before .before .before .add-ended .ensures in (
+    let e = c .before .before .before .before .before .before .before .before .before .before .before .before .before .before .before .before .before
+    .add-ended .ensures in (
       within _ (omega (arith, w .wrote .long, w .wrote .few, e .long, p .ready .long)) g,
-      listing-room w (p .tokens .long) (omega (arith, c .before .before .before .before .before .before .before .before .loop-test .taken)) g (others-room _ _ _ (p .tokens) (c .before .before .before .before .before .before .before .before .before .before .before .before .before .before .before .before .before .before .before .if1 .left) e (c .before .before .before .before .before .before .before .before .before .before .before .before .flush .ensures) (p .room)),
+      listing-room w (p .tokens .long) (omega (arith, c .before .before .before .before .before .before .before .before .loop-test .taken)) g
+          (others-room _ _ _ (p .tokens) (c .before .before .before .before .before .before .before .before .before .before .before .before .before .before
+          .before .before .before .before .before .if1 .left) e (c .before .before .before .before .before .before .before .before .before .before .before
+          .before .flush .ensures) (p .room)),
     )
 
 add-i : tie.Need-add-i Inv-loop μ-loop
 add-i c =
-    let h : c .before .before .before .before .before .before .before .before .before .before .before .before .loop .i + 1 < length (c .before .before .before .before .before .before .before .before .before .before .before .before .before .before .before .before .before .before .before .before .before .before .before .before .before .before .before .args .cs .now) = omega (arith, c .before .before .before .before .before .before .before .before .before .before .before .loop-test .taken) in
-    omega (arith, h, c .before .before .before .before .before .before .before .before .before .before .before .before .before .before .before .before .before .before .before .before .before .before .before .before .before .before .before .pre .tokens .few)
+    let h : c .before .before .before .before .before .before .before .before .before .before .before .before .loop .i + 1 < length
+    (c .before .before .before .before .before .before .before .before .before .before .before .before .before .before .before .before .before .before
+    .before .before .before .before .before .before .before .before .before .args .cs .now) = omega
+    (arith, c .before .before .before .before .before .before .before .before .before .before .before .loop-test .taken) in
+    omega (
+      arith,
+      h,
+      c .before .before .before .before .before .before .before .before .before .before .before .before .before .before .before .before .before
+          .before .before .before .before .before .before .before .before .before .before .pre .tokens .few,
+    )
 
 loop-less : tie.Need-loop-less Inv-loop μ-loop
 loop-less c = omega (arith, c .before .before .before .before .before .before .before .before .before .before .before .loop-test .taken)
@@ -73,7 +104,11 @@ loop-less c = omega (arith, c .before .before .before .before .before .before .b
 loop-again : tie.Need-loop-again Inv-loop μ-loop
 loop-again c = (
   omega arith,
-  listing-next (c .before .before .before .before .before .before .before .before .before .before .before .before .loop .inv .1) (c .before .before .before .before .before .before .before .before .before .before .before .before .before .before .before .before .before .before .before .before .before .before .before .before .before .before .before .pre .tokens .long) (omega (arith, c .before .before .before .before .before .before .before .before .before .before .before .loop-test .taken)) (c .before .before .before .before .before .before .before .add-token .ensures) (c .before .before .flush2 .ensures),
+  listing-next (c .before .before .before .before .before .before .before .before .before .before .before .before .loop .inv .1)
+      (c .before .before .before .before .before .before .before .before .before .before .before .before .before .before .before .before .before .before .before
+      .before .before .before .before .before .before .before .before .pre .tokens .long)
+      (omega (arith, c .before .before .before .before .before .before .before .before .before .before .before .loop-test .taken))
+      (c .before .before .before .before .before .before .before .add-token .ensures) (c .before .before .flush2 .ensures),
 )
 
 shared-slice-read-open-run : tie.Need-shared-slice-read-open-run Inv-loop μ-loop
@@ -89,17 +124,26 @@ open-run-requires : tie.Need-open-run-requires Inv-loop μ-loop
 open-run-requires c κs = search needs
 
 same-length : tie.Need-same-length Inv-loop μ-loop
-same-length c = c .before .before .before .before .loop .inv .1 .wrote .long ∙ c .before .before .before .before .before .before .before .before .before .before .before .before .add-ended .ensures .long
+same-length c =
+    c .before .before .before .before .loop .inv .1 .wrote .long ∙ c .before .before .before .before .before .before .before .before .before .before .before
+    .before .add-ended .ensures .long
 
 same-length-2 : tie.Need-same-length-2 Inv-loop μ-loop
-same-length-2 c = added-out _ (c .before .before .before .before .loop .inv .1 .wrote) ∙ added-out _ (c .before .before .before .before .before .before .before .flush .ensures)
+same-length-2 c =
+    added-out _ (c .before .before .before .before .loop .inv .1 .wrote)
+    ∙ added-out _ (c .before .before .before .before .before .before .before .flush .ensures)
 
 returns-2 : tie.Need-returns-2 Inv-loop μ-loop
 returns-2 c =
-    let s = c .before .before .before .before .before .before .before .before .before .before .before .before .before .before .before .before .before .before .before in
+    let s = c .before .before .before .before .before .before .before .before .before .before .before .before .before .before .before .before
+    .before .before .before in
     let i = c .before .before .before .before .loop .inv in
     rw (c .open-run .ensures)
-    (listing-ends _ _ _ (s .pre .tokens) (c .before .before .before .before .before .before .before .before .before .before .before .before .before .before .if1 .left) (c .before .before .before .before .before .before .before .before .before .before .before .before .add-ended .ensures) (c .before .before .before .before .before .before .before .flush .ensures) (i .1) _ (omega (arith, i .0, c .before .before .before .loop-test .left)) (omega (arith, c .before .before .before .before .before .before .before .before .before .before .before .before .before .before .if1 .left)) (omega (arith, c .before .shared-slice-known6 .given (length (s .args .cs .now) - 1))))
+    (listing-ends _ _ _ (s .pre .tokens) (c .before .before .before .before .before .before .before .before .before .before .before .before .before .before .if1
+    .left) (c .before .before .before .before .before .before .before .before .before .before .before .before .add-ended .ensures)
+    (c .before .before .before .before .before .before .before .flush .ensures) (i .1) _ (omega (arith, i .0, c .before .before .before .loop-test .left))
+    (omega (arith, c .before .before .before .before .before .before .before .before .before .before .before .before .before .before .if1 .left))
+    (omega (arith, c .before .shared-slice-known6 .given (length (s .args .cs .now) - 1))))
 
 pub detailed-part-spec : {M : Type 1} → statement M
 detailed-part-spec =

@@ -44,19 +44,33 @@ token-length-requires c κs = search needs
 
 add-total-2 : tie.Need-add-total-2 Inv-loop μ-loop
 add-total-2 c =
-    let h : c .before .before .before .before .loop .i + 1 < length (c .before .before .before .before .before .before .before .before .before .args .cs .now) = omega (arith, c .before .before .before .loop-test .taken) in
-    omega (arith, h, c .before .before .before .before .loop .inv .1 .short, c .before .before .before .before .before .run-length .ensures .short, c .token-length .ensures .short, c .before .before .before .before .before .before .before .before .before .pre .few)
+    let h : c .before .before .before .before .loop .i + 1 < length (c .before .before .before .before .before .before .before .before .before .args .cs .now)
+    = omega (arith, c .before .before .before .loop-test .taken) in
+    omega (
+      arith,
+      h,
+      c .before .before .before .before .loop .inv .1 .short,
+      c .before .before .before .before .before .run-length .ensures .short,
+      c .token-length .ensures .short,
+      c .before .before .before .before .before .before .before .before .before .pre .few,
+    )
 
 add-i : tie.Need-add-i Inv-loop μ-loop
 add-i c =
-    let h : c .before .before .before .before .loop .i + 1 < length (c .before .before .before .before .before .before .before .before .before .args .cs .now) = omega (arith, c .before .before .before .loop-test .taken) in
+    let h : c .before .before .before .before .loop .i + 1 < length (c .before .before .before .before .before .before .before .before .before .args .cs .now)
+    = omega (arith, c .before .before .before .loop-test .taken) in
     omega (arith, h, c .before .before .before .before .before .before .before .before .before .pre .few)
 
 loop-less : tie.Need-loop-less Inv-loop μ-loop
 loop-less c = omega (arith, c .before .before .before .loop-test .taken)
 
 loop-again : tie.Need-loop-again Inv-loop μ-loop
-loop-again c = (omega arith, summing-next (c .before .before .before .before .loop .inv .1) (c .before .before .before .before .before .before .before .before .before .pre .long) (omega (arith, c .before .before .before .loop-test .taken)) (c .token-length .ensures))
+loop-again c = (
+  omega arith,
+  summing-next (c .before .before .before .before .loop .inv .1)
+      (c .before .before .before .before .before .before .before .before .before .pre .long) (omega (arith, c .before .before .before .loop-test .taken))
+      (c .token-length .ensures),
+)
 
 shared-slice-read-open-run : tie.Need-shared-slice-read-open-run Inv-loop μ-loop
 shared-slice-read-open-run c = search needs
@@ -75,7 +89,10 @@ returns-2 c =
     let s = c .before .before .before .before .before .before .before .before .before in
     let i = c .before .before .before .before .loop .inv in
     rw (c .open-run .ensures)
-    (summing-ends (i .1) _ _ _ (s .pre) (c .before .before .before .before .before .before .if1 .left) (c .before .before .before .before .before .run-length .ensures) refl _ (omega (arith, i .0, c .before .before .before .loop-test .left)) (omega (arith, c .before .before .before .before .before .before .if1 .left)) (omega (arith, c .before .shared-slice-known6 .given (length (s .args .cs .now) - 1))))
+    (summing-ends (i .1) _ _ _ (s .pre) (c .before .before .before .before .before .before .if1 .left)
+    (c .before .before .before .before .before .run-length .ensures) refl _ (omega (arith, i .0, c .before .before .before .loop-test .left))
+    (omega (arith, c .before .before .before .before .before .before .if1 .left))
+    (omega (arith, c .before .shared-slice-known6 .given (length (s .args .cs .now) - 1))))
 
 pub detailed-part-length-spec : {M : Type 1} → statement M
 detailed-part-length-spec =

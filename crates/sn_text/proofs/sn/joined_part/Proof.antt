@@ -8,7 +8,8 @@ use borrow.Author.Needs.{needs}
 use Rattle.text_buffer.specs.Runs.{runToken}
 use Rattle.text_buffer.proofs.Added.{added-out}
 use Rattle.text_buffer.proofs.Growing.{within}
-use Rattle.sn_text.proofs.SnParts.{Writing, writing-starts, writing-ends, writing-joins, writing-room, writing-next, opened-at, opened-low, no-break, adjacent, adjacent-text}
+use Rattle.sn_text.proofs.SnParts.{Writing, writing-starts, writing-ends, writing-joins, writing-room, writing-next}
+use Rattle.sn_text.proofs.SnParts.{opened-at, opened-low, no-break, adjacent, adjacent-text}
 use Rattle.sn_text.proofs.sn.joined_part.Statement.{statement}
 use Rattle.sn_text.proofs.sn.joined_part.Tie as tie
 
@@ -22,13 +23,16 @@ loop-holds : tie.Need-loop-holds Inv-loop μ-loop
 loop-holds c = let p = c .before .before .before .before .pre in writing-starts _ _ _ _ _ (p .1 .tokens) (p .1 .ready .few)
 
 run-place-requires : tie.Need-run-place-requires Inv-loop μ-loop
-run-place-requires c κs = opened-at (c .before .loop .inv .opened) (c .before .before .before .before .before .before .pre .1 .tokens .long) (c .loop-test .taken)
+run-place-requires c κs =
+    opened-at (c .before .loop .inv .opened) (c .before .before .before .before .before .before .pre .1 .tokens .long) (c .loop-test .taken)
 
 add-next : tie.Need-add-next Inv-loop μ-loop
 add-next c = let a = c .run-place .ensures in omega (arith, a .within)
 
 add-ended-requires : tie.Need-add-ended-requires Inv-loop μ-loop
-add-ended-requires c κs = let i = c .before .before .before .before .loop .inv in let p = c .before .before .before .before .before .before .before .before .before .pre .1 .ready in (omega (arith, i .wrote .long, i .wrote .few, p .long), p .words, opened-low (i .opened))
+add-ended-requires c κs =
+    let i = c .before .before .before .before .loop .inv in let p = c .before .before .before .before .before .before .before .before .before .pre .1 .ready
+    in (omega (arith, i .wrote .long, i .wrote .few, p .long), p .words, opened-low (i .opened))
 
 flush-requires : tie.Need-flush-requires Inv-loop μ-loop
 flush-requires c κs =
@@ -36,17 +40,39 @@ flush-requires c κs =
     let p = c .before .before .before .before .before .before .before .before .before .before .before .before .before .before .pre in
     let a = c .before .before .before .before .before .before .before .run-place .ensures in
     let z = no-break a (omega (arith, c .before .before .before .before .before .before .if1 .taken)) in
-    let g = rw (adjacent-text (c .before .before .before .before .before .before .before .before .before .before .before .before .before .before .args .limit) _ _ _ _ (w .opened .run) z) at (c .before .before .before .before .add-ended .ensures) in
-    (within _ (omega (arith, w .wrote .long, w .wrote .few, p .1 .ready .long)) g, writing-room w a (adjacent _ _ a z) (omega (arith, c .before .before .before .before .before .before .before .before .before .before .before .before .shared-slice-known2 .given (c .before .before .before .before .before .before .before .run-place .result .place))) g (p .1 .room))
+    let g = rw (adjacent-text (c .before .before .before .before .before .before .before .before .before .before .before .before .before .before .args .limit) _
+    _ _ _ (w .opened .run) z) at (c .before .before .before .before .add-ended .ensures) in (
+      within _ (omega (arith, w .wrote .long, w .wrote .few, p .1 .ready .long)) g,
+      writing-room w a (adjacent _ _ a z) (omega (
+        arith,
+        c .before .before .before .before .before .before .before .before .before .before .before .before
+            .shared-slice-known2 .given (c .before .before .before .before .before .before .before .run-place .result .place),
+      )) g (p .1 .room),
+    )
 
 shared-slice-read-open-run : tie.Need-shared-slice-read-open-run Inv-loop μ-loop
-shared-slice-read-open-run c = let a = c .before .before .before .before .before .before .before .before .before .before .before .run-place .ensures in omega (arith, a .within)
+shared-slice-read-open-run c =
+    let a = c .before .before .before .before .before .before .before .before .before .before .before .run-place .ensures in omega (arith, a .within)
 
 mul-open-run : tie.Need-mul-open-run Inv-loop μ-loop
-mul-open-run c = let a = c .before .before .before .before .before .before .before .before .before .before .before .run-place .ensures in omega (arith, a .within, c .before .before .before .before .before .before .before .before .before .before .before .before .before .before .before .before .before .before .pre .1 .tokens .few)
+mul-open-run c =
+    let a = c .before .before .before .before .before .before .before .before .before .before .before .run-place .ensures
+    in omega (
+      arith,
+      a .within,
+      c .before .before .before .before .before .before .before .before .before .before .before .before .before .before .before
+          .before .before .before .pre .1 .tokens .few,
+    )
 
 shared-slice-read-open-run-2 : tie.Need-shared-slice-read-open-run-2 Inv-loop μ-loop
-shared-slice-read-open-run-2 c = let a = c .before .before .before .before .before .before .before .before .before .before .before .before .run-place .ensures in omega (arith, a .within, c .before .before .before .before .before .before .before .before .before .before .before .before .before .before .before .before .before .before .before .pre .1 .tokens .long)
+shared-slice-read-open-run-2 c =
+    let a = c .before .before .before .before .before .before .before .before .before .before .before .before .run-place .ensures
+    in omega (
+      arith,
+      a .within,
+      c .before .before .before .before .before .before .before .before .before .before .before .before .before .before .before
+          .before .before .before .before .pre .1 .tokens .long,
+    )
 
 open-run-requires : tie.Need-open-run-requires Inv-loop μ-loop
 open-run-requires c κs = search needs
@@ -61,10 +87,14 @@ cast-last : tie.Need-cast-last Inv-loop μ-loop
 cast-last c = search needs
 
 mul-last : tie.Need-mul-last Inv-loop μ-loop
-mul-last c = let a = c .before .before .before .before .before .run-place .ensures in omega (arith, a .within, c .before .before .before .before .before .before .before .before .before .before .before .before .pre .1 .tokens .few)
+mul-last c =
+    let a = c .before .before .before .before .before .run-place .ensures
+    in omega (arith, a .within, c .before .before .before .before .before .before .before .before .before .before .before .before .pre .1 .tokens .few)
 
 shared-slice-read-last : tie.Need-shared-slice-read-last Inv-loop μ-loop
-shared-slice-read-last c = let a = c .before .before .before .before .before .before .run-place .ensures in omega (arith, a .within, c .before .before .before .before .before .before .before .before .before .before .before .before .before .pre .1 .tokens .long)
+shared-slice-read-last c =
+    let a = c .before .before .before .before .before .before .run-place .ensures
+    in omega (arith, a .within, c .before .before .before .before .before .before .before .before .before .before .before .before .before .pre .1 .tokens .long)
 
 cast-last-2 : tie.Need-cast-last-2 Inv-loop μ-loop
 cast-last-2 c = omega (arith, c .shared-slice-known6 .given (c .before .before .before .before .before .before .run-place .result .place))
@@ -76,14 +106,27 @@ add-last-2 : tie.Need-add-last-2 Inv-loop μ-loop
 add-last-2 c =
     let o = c .before .before .before .before .before .before .before .before .before .loop .inv .opened in
     let p = c .before .before .before .before .before .before .before .before .before .before .before .before .before .before .pre in
-    omega (arith, o .small, o .within, p .1 .tokens .few, p .1 .short, c .before .shared-slice-known6 .given (c .before .before .before .before .before .before .before .run-place .result .place))
+    omega (
+      arith,
+      o .small,
+      o .within,
+      p .1 .tokens .few,
+      p .1 .short,
+      c .before .shared-slice-known6 .given (c .before .before .before .before .before .before .before .run-place .result .place),
+    )
 
 add-group-requires : tie.Need-add-group-requires Inv-loop μ-loop
 add-group-requires c κs =
     let w = c .before .before .before .before .before .before .before .loop .inv in
     let o = w .opened in
-    let p = c .before .before .before .before .before .before .before .before .before .before .before .before .pre in
-    (omega (arith, w .wrote .long, w .wrote .few, p .1 .ready .long), p .1 .ready .words, p .0, o .run, opened-low o, omega (arith, o .small, o .within, p .1 .tokens .few, p .1 .short))
+    let p = c .before .before .before .before .before .before .before .before .before .before .before .before .pre in (
+      omega (arith, w .wrote .long, w .wrote .few, p .1 .ready .long),
+      p .1 .ready .words,
+      p .0,
+      o .run,
+      opened-low o,
+      omega (arith, o .small, o .within, p .1 .tokens .few, p .1 .short),
+    )
 
 flush-requires-2 : tie.Need-flush-requires-2 Inv-loop μ-loop
 flush-requires-2 c κs =
@@ -91,23 +134,49 @@ flush-requires-2 c κs =
     let p = c .before .before .before .before .before .before .before .before .before .before .before .before .before .before .before .before .before .pre in
     let g = c .before .before .before .before .add-group .ensures in (
       within _ (omega (arith, w .wrote .long, w .wrote .few, p .1 .ready .long)) g,
-      writing-room w (c .before .before .before .before .before .before .before .before .before .before .run-place .ensures) (λ e. c .before .before .before .before .before .before .if2 .left (e ∙ sym (c .before .before .before .before .before .before .before .join-class .ensures))) (omega (arith, c .before .before .before .before .before .before .before .before .before .before .before .before .before .before .before .shared-slice-known2 .given (c .before .before .before .before .before .before .before .before .before .before .run-place .result .place))) g (p .1 .room),
+      writing-room w (c .before .before .before .before .before .before .before .before .before .before .run-place .ensures)
+          (λ e. c .before .before .before .before .before .before .if2 .left
+          (e ∙ sym (c .before .before .before .before .before .before .before .join-class .ensures)))
+          (omega (
+            arith,
+            c .before .before .before .before .before .before .before .before .before .before .before .before .before .before .before
+                .shared-slice-known2 .given (c .before .before .before .before .before .before .before .before .before .before .run-place .result
+                .place),
+          )) g (p .1 .room),
     )
 
 shared-slice-read-open-run-3 : tie.Need-shared-slice-read-open-run-3 Inv-loop μ-loop
-shared-slice-read-open-run-3 c = let a = c .before .before .before .before .before .before .before .before .before .before .before .before .before .before .run-place .ensures in omega (arith, a .within)
+shared-slice-read-open-run-3 c =
+    let a = c .before .before .before .before .before .before .before .before .before .before .before .before .before .before .run-place .ensures
+    in omega (arith, a .within)
 
 mul-open-run-2 : tie.Need-mul-open-run-2 Inv-loop μ-loop
-mul-open-run-2 c = let a = c .before .before .before .before .before .before .before .before .before .before .before .before .before .before .run-place .ensures in omega (arith, a .within, c .before .before .before .before .before .before .before .before .before .before .before .before .before .before .before .before .before .before .before .before .before .pre .1 .tokens .few)
+mul-open-run-2 c =
+    let a = c .before .before .before .before .before .before .before .before .before .before .before .before .before .before .run-place .ensures
+    in omega (
+      arith,
+      a .within,
+      c .before .before .before .before .before .before .before .before .before .before .before .before .before .before .before
+          .before .before .before .before .before .before .pre .1 .tokens .few,
+    )
 
 shared-slice-read-open-run-4 : tie.Need-shared-slice-read-open-run-4 Inv-loop μ-loop
-shared-slice-read-open-run-4 c = let a = c .before .before .before .before .before .before .before .before .before .before .before .before .before .before .before .run-place .ensures in omega (arith, a .within, c .before .before .before .before .before .before .before .before .before .before .before .before .before .before .before .before .before .before .before .before .before .before .pre .1 .tokens .long)
+shared-slice-read-open-run-4 c =
+    let a = c .before .before .before .before .before .before .before .before .before .before .before .before .before .before .before .run-place .ensures
+    in omega (
+      arith,
+      a .within,
+      c .before .before .before .before .before .before .before .before .before .before .before .before .before .before .before
+          .before .before .before .before .before .before .before .pre .1 .tokens .long,
+    )
 
 open-run-requires-2 : tie.Need-open-run-requires-2 Inv-loop μ-loop
 open-run-requires-2 c κs = search needs
 
 loop-less : tie.Need-loop-less Inv-loop μ-loop
-loop-less c = let a = c .before .before .before .before .before .before .before .before .before .before .before .before .before .run-place .ensures in omega (arith, a .on, a .within)
+loop-less c =
+    let a = c .before .before .before .before .before .before .before .before .before .before .before .before .before .run-place .ensures
+    in omega (arith, a .on, a .within)
 
 loop-again : tie.Need-loop-again Inv-loop μ-loop
 loop-again c =
@@ -115,7 +184,15 @@ loop-again c =
     let a = c .before .before .before .before .before .before .before .before .before .before .before .before .before .run-place .ensures in
     let z = no-break a (omega (arith, c .before .before .before .before .before .before .before .before .before .before .before .before .if1 .taken)) in
     rw (c .open-run .ensures)
-    (writing-next w a (adjacent _ _ a z) (omega (arith, c .before .shared-slice-known4 .given (c .before .before .before .before .before .before .before .before .before .before .before .before .before .run-place .result .place))) (rw (adjacent-text (c .before .before .before .before .before .before .before .before .before .before .before .before .before .before .before .before .before .before .before .before .args .limit) _ _ _ _ (w .opened .run) z) at (c .before .before .before .before .before .before .before .before .before .before .add-ended .ensures)) (c .before .before .before .before .before .flush .ensures))
+    (writing-next w a (adjacent _ _ a z) (omega (
+      arith,
+      c .before .shared-slice-known4 .given
+          (c .before .before .before .before .before .before .before .before .before .before .before .before .before .run-place .result .place),
+    ))
+    (rw (adjacent-text (c .before .before .before .before .before .before .before .before .before .before .before .before .before .before .before .before
+    .before .before .before .before .args .limit) _ _ _ _ (w .opened .run) z) at
+    (c .before .before .before .before .before .before .before .before .before .before .add-ended .ensures))
+    (c .before .before .before .before .before .flush .ensures))
 
 loop-less-2 : tie.Need-loop-less-2 Inv-loop μ-loop
 loop-less-2 c = let a = c .before .before .before .before .before .before .before .run-place .ensures in omega (arith, a .on, a .within)
@@ -123,15 +200,28 @@ loop-less-2 c = let a = c .before .before .before .before .before .before .befor
 loop-again-2 : tie.Need-loop-again-2 Inv-loop μ-loop
 loop-again-2 c =
     let n = c .before .shared-slice-known6 .given (c .before .before .before .before .before .before .before .run-place .result .place) in
-    writing-joins (c .before .before .before .before .before .before .before .before .before .loop .inv) (c .before .before .before .before .before .before .before .run-place .ensures) (c .before .before .before .if2 .taken ∙ c .before .before .before .before .join-class .ensures) (omega arith) (omega (arith, n))
+    writing-joins (c .before .before .before .before .before .before .before .before .before .loop .inv)
+    (c .before .before .before .before .before .before .before .run-place .ensures)
+    (c .before .before .before .if2 .taken ∙ c .before .before .before .before .join-class .ensures) (omega arith) (omega (arith, n))
 
 loop-less-3 : tie.Need-loop-less-3 Inv-loop μ-loop
-loop-less-3 c = let a = c .before .before .before .before .before .before .before .before .before .before .before .before .before .before .before .before .run-place .ensures in omega (arith, a .on, a .within)
+loop-less-3 c =
+    let a = c .before .before .before .before .before .before .before .before .before .before .before .before .before .before .before .before .run-place
+    .ensures in omega (arith, a .on, a .within)
 
 loop-again-3 : tie.Need-loop-again-3 Inv-loop μ-loop
 loop-again-3 c =
     rw (c .open-run2 .ensures)
-    (writing-next (c .before .before .before .before .before .before .before .before .before .before .before .before .before .before .before .before .before .before .loop .inv) (c .before .before .before .before .before .before .before .before .before .before .before .before .before .before .before .before .run-place .ensures) (λ e. c .before .before .before .before .before .before .before .before .before .before .before .before .if2 .left (e ∙ sym (c .before .before .before .before .before .before .before .before .before .before .before .before .before .join-class .ensures))) (omega (arith, c .before .shared-slice-known8 .given (c .before .before .before .before .before .before .before .before .before .before .before .before .before .before .before .before .run-place .result .place))) (c .before .before .before .before .before .before .before .before .before .before .add-group .ensures) (c .before .before .before .before .before .flush2 .ensures))
+    (writing-next (c .before .before .before .before .before .before .before .before .before .before .before .before .before .before .before .before .before
+    .before .loop .inv) (c .before .before .before .before .before .before .before .before .before .before .before .before .before .before .before .before
+    .run-place .ensures) (λ e. c .before .before .before .before .before .before .before .before .before .before .before .before .if2 .left
+    (e ∙ sym (c .before .before .before .before .before .before .before .before .before .before .before .before .before .join-class .ensures)))
+    (omega (
+      arith,
+      c .before .shared-slice-known8 .given (c .before .before .before .before .before .before .before .before .before .before .before .before
+          .before .before .before .before .run-place .result .place),
+    )) (c .before .before .before .before .before .before .before .before .before .before
+    .add-group .ensures) (c .before .before .before .before .before .flush2 .ensures))
 
 same-length : tie.Need-same-length Inv-loop μ-loop
 same-length c = c .before .loop .inv .wrote .long

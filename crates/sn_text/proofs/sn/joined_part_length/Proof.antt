@@ -68,7 +68,8 @@ loop-again c =
     let d = c .before .before .before .before .before .before .next-run .result .class in
     ⊎-elim
     (λ v. rw (v .3, v .4, v .0 .taken) (counting-joins w a (eqb-true d (j .result) (v .0 .taken) ∙ j .ensures) (omega arith) (omega arith)))
-    (λ v. rw (v .1, v .2, v .0 .left) (counting-next w a (λ e. eqb-false d (j .result) (v .0 .left) (e ∙ sym (j .ensures))) (omega arith) (c .before .before .before .before .before .ended-length .ensures)))
+    (λ v. rw (v .1, v .2, v .0 .left) (counting-next w a (λ e. eqb-false d (j .result) (v .0 .left) (e ∙ sym (j .ensures))) (omega arith)
+    (c .before .before .before .before .before .ended-length .ensures)))
     (c .before .if1 .came)
 
 returns : tie.Need-returns Inv-loop μ-loop

@@ -31,7 +31,8 @@ returns-2 : tie.Need-returns-2
 returns-2 c =
     let s = c .before .before .before .before .before .before .before .before in
     let j = c .before .before .before .before .before .before .join-class .ensures in
-    turned-apart (s .args .limit) (s .args .last) (s .args .gap) (s .args .next) (s .pre .3) (s .pre .5) (λ e. c .before .before .before .before .if1 .left (e ∙ sym j)) (c .before .before .add-group .ensures)
+    turned-apart (s .args .limit) (s .args .last) (s .args .gap) (s .args .next) (s .pre .3) (s .pre .5)
+    (λ e. c .before .before .before .before .if1 .left (e ∙ sym j)) (c .before .before .add-group .ensures)
 
 pub joined-turn-spec : {M : Type 1} → statement M
 joined-turn-spec =

@@ -15,7 +15,14 @@ add-run-requires-2 : tie.Need-add-run-requires-2
 add-run-requires-2 c κs = search needs
 
 add-run-requires-3 : tie.Need-add-run-requires-3
-add-run-requires-3 c κs = let o = c .before .before .before .before .before .before .before .before .before .before .before .before .before .before .before .before .before .before .three-turns .ensures .simplified in (o .room, c .before .before .before .before .before .before .before .before .before .before .before .before .before .before .before .before .before .before .before .before .before .before .before .before .before .before .before .pre .words, o .low)
+add-run-requires-3 c κs =
+    let o = c .before .before .before .before .before .before .before .before .before .before .before .before .before .before .before .before .before .before
+    .three-turns .ensures .simplified in (
+      o .room,
+      c .before .before .before .before .before .before .before .before .before .before .before .before .before
+          .before .before .before .before .before .before .before .before .before .before .before .before .before .before .pre .words,
+      o .low,
+    )
 
 same-length : tie.Need-same-length
 same-length c = search needs
@@ -28,7 +35,8 @@ same-length-3 c = search needs
 
 returns : tie.Need-returns
 returns c =
-    let o = c .before .before .before .before .before .before .before .before .before .before .before .before .before .before .before .before .before .before .before .before .before .three-turns .ensures in
+    let o = c .before .before .before .before .before .before .before .before .before .before .before .before .before .before .before .before .before .before
+    .before .before .before .three-turns .ensures in
     record {
       first = opened-written (o .detailed) (c .before .before .before .before .before .before .before .before .before .before .add-run .ensures);
       second = opened-written (o .partial) (c .before .before .before .before .before .before .add-run2 .ensures);

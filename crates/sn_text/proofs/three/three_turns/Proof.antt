@@ -13,7 +13,8 @@ use Rattle.sn_text.proofs.three.three_turns.Tie as tie
 
 abbrev Inv-loop : tie.InvT-loop
 Inv-loop cs ns words detailed₀ partial₀ simplified₀ a₀ b₀ c₀ i₀ detailed partial simplified a b c i =
-    Walking 0 (runToken (a₀ .run)) cs ns detailed₀ detailed a i × Walking 1 (runToken (b₀ .run)) cs ns partial₀ partial b i × Walking 4 (runToken (c₀ .run)) cs ns simplified₀ simplified c i
+    Walking 0 (runToken (a₀ .run)) cs ns detailed₀ detailed a i × Walking 1 (runToken (b₀ .run)) cs ns partial₀ partial b i
+    × Walking 4 (runToken (c₀ .run)) cs ns simplified₀ simplified c i
 
 abbrev μ-loop : tie.MeasureT-loop
 μ-loop cs ns words detailed₀ partial₀ simplified₀ a₀ b₀ c₀ i₀ detailed partial simplified a b c i = length cs - i
@@ -24,16 +25,27 @@ loop-holds c =
     (walking-starts 0 _ _ (p .tokens) (p .few), walking-starts 1 _ _ (p .tokens) (p .few), walking-starts 4 _ _ (p .tokens) (p .few))
 
 run-place-requires : tie.Need-run-place-requires Inv-loop μ-loop
-run-place-requires c κs = opened-at (c .before .loop .inv .0 .opened) (c .before .before .before .before .before .before .before .pre .tokens .long) (c .loop-test .taken)
+run-place-requires c κs =
+    opened-at (c .before .loop .inv .0 .opened) (c .before .before .before .before .before .before .before .pre .tokens .long) (c .loop-test .taken)
 
 shared-slice-read-open-run : tie.Need-shared-slice-read-open-run Inv-loop μ-loop
 shared-slice-read-open-run c = let a = c .before .run-place .ensures in omega (arith, a .within)
 
 mul-open-run : tie.Need-mul-open-run Inv-loop μ-loop
-mul-open-run c = let a = c .before .run-place .ensures in omega (arith, a .within, c .before .before .before .before .before .before .before .before .before .pre .tokens .few)
+mul-open-run c =
+    let a = c .before .run-place .ensures in omega (
+      arith,
+      a .within,
+      c .before .before .before .before .before .before .before .before .before .pre .tokens .few,
+    )
 
 shared-slice-read-open-run-2 : tie.Need-shared-slice-read-open-run-2 Inv-loop μ-loop
-shared-slice-read-open-run-2 c = let a = c .before .before .run-place .ensures in omega (arith, a .within, c .before .before .before .before .before .before .before .before .before .before .pre .tokens .long)
+shared-slice-read-open-run-2 c =
+    let a = c .before .before .run-place .ensures in omega (
+      arith,
+      a .within,
+      c .before .before .before .before .before .before .before .before .before .before .pre .tokens .long,
+    )
 
 open-run-requires : tie.Need-open-run-requires Inv-loop μ-loop
 open-run-requires c κs = search needs
@@ -42,43 +54,91 @@ adjacent-turn-requires : tie.Need-adjacent-turn-requires Inv-loop μ-loop
 adjacent-turn-requires c κs =
     let w = c .before .before .before .before .before .before .before .loop .inv .0 in
     let p = c .before .before .before .before .before .before .before .before .before .before .before .before .before .pre in
-    rw (c .before .before .open-run .ensures) (walking-room w (c .before .before .before .before .before .before .loop-test .taken) (p .roomFirst), p .words, w .opened .run, walking-low w, c .before .before .before .before .before .run-place .ensures .run)
+    rw (c .before .before .open-run .ensures) (
+      walking-room w (c .before .before .before .before .before .before .loop-test .taken) (p .roomFirst),
+      p .words,
+      w .opened .run,
+      walking-low w,
+      c .before .before .before .before .before .run-place .ensures .run,
+    )
 
 adjacent-turn-requires-2 : tie.Need-adjacent-turn-requires-2 Inv-loop μ-loop
 adjacent-turn-requires-2 c κs =
     let w = c .before .before .before .before .before .before .before .before .before .before .before .loop .inv .1 in
     let p = c .before .before .before .before .before .before .before .before .before .before .before .before .before .before .before .before .before .pre in
-    rw (c .before .before .before .before .before .before .open-run .ensures) (walking-room w (c .before .before .before .before .before .before .before .before .before .before .loop-test .taken) (p .roomSecond), p .words, w .opened .run, walking-low w, c .before .before .before .before .before .before .before .before .before .run-place .ensures .run)
+    rw (c .before .before .before .before .before .before .open-run .ensures) (
+      walking-room w (c .before .before .before .before .before .before .before .before .before .before .loop-test .taken) (p .roomSecond),
+      p .words,
+      w .opened .run,
+      walking-low w,
+      c .before .before .before .before .before .before .before .before .before .run-place .ensures .run,
+    )
 
 adjacent-turn-requires-3 : tie.Need-adjacent-turn-requires-3 Inv-loop μ-loop
 adjacent-turn-requires-3 c κs =
     let w = c .before .before .before .before .before .before .before .before .before .before .before .before .before .before .before .loop .inv .2 in
-    let p = c .before .before .before .before .before .before .before .before .before .before .before .before .before .before .before .before .before .before .before .before .before .pre in
-    rw (c .before .before .before .before .before .before .before .before .before .before .open-run .ensures) (walking-room w (c .before .before .before .before .before .before .before .before .before .before .before .before .before .before .loop-test .taken) (p .roomThird), p .words, w .opened .run, walking-low w, c .before .before .before .before .before .before .before .before .before .before .before .before .before .run-place .ensures .run)
+    let p = c .before .before .before .before .before .before .before .before .before .before .before .before .before .before .before .before .before .before
+    .before .before .before .pre in
+    rw (c .before .before .before .before .before .before .before .before .before .before .open-run .ensures) (
+      walking-room w (c .before .before .before .before .before .before .before .before .before .before .before .before .before .before .loop-test .taken)
+          (p .roomThird),
+      p .words,
+      w .opened .run,
+      walking-low w,
+      c .before .before .before .before .before .before .before .before .before .before .before
+          .before .before .run-place .ensures .run,
+    )
 
 detailed-turn-requires : tie.Need-detailed-turn-requires Inv-loop μ-loop
 detailed-turn-requires c κs =
     let w = c .before .before .before .before .before .before .before .loop .inv .0 in
     let p = c .before .before .before .before .before .before .before .before .before .before .before .before .before .pre in
     let a = c .before .before .before .before .before .run-place .ensures in
-    rw (c .before .before .open-run .ensures) (walking-room w (c .before .before .before .before .before .before .loop-test .taken) (p .roomFirst), p .words, some-break a (λ e. c .before .if1 .left (omega (arith, e))), w .opened .run, walking-low w, a .run)
+    rw (c .before .before .open-run .ensures) (
+      walking-room w (c .before .before .before .before .before .before .loop-test .taken) (p .roomFirst),
+      p .words,
+      some-break a (λ e. c .before .if1 .left (omega (arith, e))),
+      w .opened .run,
+      walking-low w,
+      a .run,
+    )
 
 joined-turn-requires : tie.Need-joined-turn-requires Inv-loop μ-loop
 joined-turn-requires c κs =
     let w = c .before .before .before .before .before .before .before .before .before .before .before .loop .inv .1 in
     let p = c .before .before .before .before .before .before .before .before .before .before .before .before .before .before .before .before .before .pre in
     let a = c .before .before .before .before .before .before .before .before .before .run-place .ensures in
-    rw (c .before .before .before .before .before .before .open-run .ensures) (walking-room w (c .before .before .before .before .before .before .before .before .before .before .loop-test .taken) (p .roomSecond), p .words, omega arith, w .opened .run, walking-low w, a .run, omega (arith, walking-few w a))
+    rw (c .before .before .before .before .before .before .open-run .ensures) (
+      walking-room w (c .before .before .before .before .before .before .before .before .before .before .loop-test .taken) (p .roomSecond),
+      p .words,
+      omega arith,
+      w .opened .run,
+      walking-low w,
+      a .run,
+      omega (arith, walking-few w a),
+    )
 
 joined-turn-requires-2 : tie.Need-joined-turn-requires-2 Inv-loop μ-loop
 joined-turn-requires-2 c κs =
     let w = c .before .before .before .before .before .before .before .before .before .before .before .before .before .before .before .loop .inv .2 in
-    let p = c .before .before .before .before .before .before .before .before .before .before .before .before .before .before .before .before .before .before .before .before .before .pre in
+    let p = c .before .before .before .before .before .before .before .before .before .before .before .before .before .before .before .before .before .before
+    .before .before .before .pre in
     let a = c .before .before .before .before .before .before .before .before .before .before .before .before .before .run-place .ensures in
-    rw (c .before .before .before .before .before .before .before .before .before .before .open-run .ensures) (walking-room w (c .before .before .before .before .before .before .before .before .before .before .before .before .before .before .loop-test .taken) (p .roomThird), p .words, omega arith, w .opened .run, walking-low w, a .run, omega (arith, walking-few w a))
+    rw (c .before .before .before .before .before .before .before .before .before .before .open-run .ensures) (
+      walking-room w (c .before .before .before .before .before .before .before .before .before .before .before .before .before .before .loop-test .taken)
+          (p .roomThird),
+      p .words,
+      omega arith,
+      w .opened .run,
+      walking-low w,
+      a .run,
+      omega (arith, walking-few w a),
+    )
 
 add-i : tie.Need-add-i Inv-loop μ-loop
-add-i c = let a = c .before .before .before .before .run-place .ensures in omega (arith, a .within, c .before .before .before .before .before .before .before .before .before .before .before .before .pre .tokens .few)
+add-i c =
+    let a = c .before .before .before .before .run-place .ensures in omega
+    (arith, a .within, c .before .before .before .before .before .before .before .before .before .before .before .before .pre .tokens .few)
 
 loop-less : tie.Need-loop-less Inv-loop μ-loop
 loop-less c = let a = c .before .before .before .before .run-place .ensures in omega (arith, a .on, a .within)

@@ -16,7 +16,8 @@ same-length : tie.Need-same-length
 same-length c = search needs
 
 returns : tie.Need-returns
-returns c = rw (c .before .before .before .before .before .if1 .taken) (worded (c .before .before .before .part-word .ensures) (c .before .before .add-word .ensures))
+returns c =
+    rw (c .before .before .before .before .before .if1 .taken) (worded (c .before .before .before .part-word .ensures) (c .before .before .add-word .ensures))
 
 add-length-requires : tie.Need-add-length-requires
 add-length-requires c κs = search needs

@@ -26,7 +26,16 @@ add-byte-requires-2 c κs =
     let s = c .before .before .before .before .before .before .before .before .before .before .before in
     let a = c .before .before .before .before .before .before .before .add-byte .ensures in
     let b = c .before .before .before .add-in-parens .ensures in
-    omega (arith, s .pre .0, a .next, a .long, byte-short (c .before .before .before .before .before .before .before .before .first-byte .result), b .next, b .long, in-parens (s .args .n) (omega arith))
+    omega (
+      arith,
+      s .pre .0,
+      a .next,
+      a .long,
+      byte-short (c .before .before .before .before .before .before .before .before .first-byte .result),
+      b .next,
+      b .long,
+      in-parens (s .args .n) (omega arith),
+    )
 
 same-length : tie.Need-same-length
 same-length c = search needs
@@ -35,8 +44,17 @@ returns : tie.Need-returns
 returns c =
     let one = eq-eqb _ 1 (c .if1 .taken) in
     let a = c .before .before .before .before .before .before .before .before .before .before .before .add-byte .ensures in
-    let d = dropped _ (within _ (omega (arith, c .before .before .before .before .before .before .before .before .before .before .before .before .before .before .before .pre .0)) a) (grown _ _ (c .before .before .before .before .before .before .before .add-in-parens .ensures) (c .before .before .before .add-byte2 .ensures)) in
-    rw one (rw (append-nil, c .before .before .before .before .before .before .before .before .before .before .before .before .first-byte .ensures, one) at (grown _ [] a d))
+    let d = dropped _ (within _ (omega (
+      arith,
+      c .before .before .before .before .before .before .before .before .before .before .before .before .before .before
+          .before .pre .0,
+    )) a) (grown _ _ (c .before .before .before .before .before .before .before .add-in-parens .ensures)
+    (c .before .before .before .add-byte2 .ensures)) in
+    rw one (rw (
+      append-nil,
+      c .before .before .before .before .before .before .before .before .before .before .before .before .first-byte .ensures,
+      one,
+    ) at (grown _ [] a d))
 
 same-length-2 : tie.Need-same-length-2
 same-length-2 c = search needs
@@ -45,7 +63,8 @@ returns-2 : tie.Need-returns-2
 returns-2 c =
     let more = ne-eqb _ 1 (c .if1 .left) in
     let b = grown _ _ (c .before .before .before .before .before .before .before .add-in-parens .ensures) (c .before .before .before .add-byte2 .ensures) in
-    rw more (rw (c .before .before .before .before .before .before .before .before .before .before .before .before .first-byte .ensures, more) at (grown _ _ (c .before .before .before .before .before .before .before .before .before .before .before .add-byte .ensures) b))
+    rw more (rw (c .before .before .before .before .before .before .before .before .before .before .before .before .first-byte .ensures, more) at
+    (grown _ _ (c .before .before .before .before .before .before .before .before .before .before .before .add-byte .ensures) b))
 
 pub add-length-spec : {M : Type 1} → statement M
 add-length-spec =

@@ -34,14 +34,22 @@ put-pieces-requires c κs =
     let s = c .before .before .before .before .before .before .before .before .before .before in
     let i = s .loop .inv .0 in
     let p = s .before .before .before .before .before .pre in
-    let a = i .written .wrote in
-    (f .2, record { long = omega (arith, a .long, p .ready .long); few = a .few; words = p .ready .words }, part-room _ _ _ _ _ _ _ _ _ i (filled-step _ (f .0)) (p .room))
+    let a = i .written .wrote in (
+      f .2,
+      record { long = omega (arith, a .long, p .ready .long); few = a .few; words = p .ready .words },
+      part-room _ _ _ _ _ _ _ _ _ i (filled-step _ (f .0)) (p .room),
+    )
 
 loop-less : tie.Need-loop-less Inv-loop μ-loop
 loop-less c =
     let l = c .before .before .before .before .before .before .before .before .before .before .before .before .before .before .before .before .loop in
     let f = c .before .before .before .before .before .before .before .before .before .before .before .fill .ensures in
-    omega (arith, f .3 (c .before .before .before .before .before .before .before .before .before .before .before .before .before .before .before .loop-test .taken), f .0 .standing .within)
+    omega (
+      arith,
+      f .3 (c .before .before .before .before .before .before .before .before .before .before .before .before .before .before .before .loop-test
+          .taken),
+      f .0 .standing .within,
+    )
 
 loop-again : tie.Need-loop-again Inv-loop μ-loop
 loop-again c =

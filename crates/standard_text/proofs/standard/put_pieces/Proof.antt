@@ -47,8 +47,10 @@ flush-requires : tie.Need-flush-requires Inv-loop μ-loop
 flush-requires c κs =
     let i = c .before .before .before .before .before .before .before .before .before .before .loop .inv in
     let p = c .before .before .before .before .before .before .before .before .before .before .before .before .before .pre in
-    let g = c .before .before .before .before .add-piece .ensures in
-    (within _ (omega (arith, i .1 .long, i .1 .few, p .1 .long)) g, rw (g .front) (done-room _ _ _ _ _ (i .1) (c .before .before .before .before .before .before .before .before .before .loop-test .taken) (p .2)))
+    let g = c .before .before .before .before .add-piece .ensures in (
+      within _ (omega (arith, i .1 .long, i .1 .few, p .1 .long)) g,
+      rw (g .front) (done-room _ _ _ _ _ (i .1) (c .before .before .before .before .before .before .before .before .before .loop-test .taken) (p .2)),
+    )
 
 add-i : tie.Need-add-i Inv-loop μ-loop
 add-i c = omega arith
@@ -59,8 +61,11 @@ loop-less c = omega arith
 loop-again : tie.Need-loop-again Inv-loop μ-loop
 loop-again c =
     let s = c .before .before .before .before .before .before .before .before .before .before .before .before .before in
-    let a = s .before .before .before .args in
-    (omega arith, done-step (a .signs) (a .lengths .now) (a .stars .now) (a .gaps .now) (s .loop .i) (s .loop .inv .1) (c .before .before .before .before .before .before .before .add-piece .ensures) (c .before .before .flush .ensures))
+    let a = s .before .before .before .args in (
+      omega arith,
+      done-step (a .signs) (a .lengths .now) (a .stars .now) (a .gaps .now) (s .loop .i) (s .loop .inv .1)
+          (c .before .before .before .before .before .before .before .add-piece .ensures) (c .before .before .flush .ensures),
+    )
 
 same-length : tie.Need-same-length Inv-loop μ-loop
 same-length c = c .before .loop .inv .1 .long

@@ -38,7 +38,14 @@ add-open : tie.Need-add-open Inv-loop μ-loop
 add-open c =
     let l = c .before .before .before .before .before .loop in
     let i = l .inv in
-    omega (arith, c .before .before .before .shared-slice-known3 .given (l .i), i .small, i .standing .within, i .standing .few, c .before .before .before .before .before .before .before .before .before .before .pre .short)
+    omega (
+      arith,
+      c .before .before .before .shared-slice-known3 .given (l .i),
+      i .small,
+      i .standing .within,
+      i .standing .few,
+      c .before .before .before .before .before .before .before .before .before .before .pre .short,
+    )
 
 cast-open-2 : tie.Need-cast-open-2 Inv-loop μ-loop
 cast-open-2 c = omega (arith, c .before .before .before .shared-slice-known3 .given (c .before .before .before .before .before .loop .i))
@@ -47,7 +54,14 @@ add-open-2 : tie.Need-add-open-2 Inv-loop μ-loop
 add-open-2 c =
     let l = c .before .before .before .before .before .before .loop in
     let i = l .inv in
-    omega (arith, c .before .before .before .before .shared-slice-known3 .given (l .i), i .small, i .standing .within, i .standing .few, c .before .before .before .before .before .before .before .before .before .before .before .pre .short)
+    omega (
+      arith,
+      c .before .before .before .before .shared-slice-known3 .given (l .i),
+      i .small,
+      i .standing .within,
+      i .standing .few,
+      c .before .before .before .before .before .before .before .before .before .before .before .pre .short,
+    )
 
 add-piece-requires : tie.Need-add-piece-requires Inv-loop μ-loop
 add-piece-requires c κs =
@@ -61,7 +75,9 @@ flush-requires c κs =
     let i = l .inv in
     let p = c .before .before .before .before .before .before .before .before .before .before .before .before .before .before .before .before .pre in
     let g = c .before .before .before .before .add-piece .ensures in
-    let s = apart-step (i .standing) (c .before .before .before .before .before .before .before .before .before .before .loop-test .taken) _ _ _ _ (omega (arith, c .before .before .before .before .before .before .before .before .before .shared-slice-known3 .given (l .i))) (omega (arith, c .before .before .before .before .before .before .before .if1 .left)) (c .before .before .before .before .before .before .if2 .left) in
+    let s = apart-step (i .standing) (c .before .before .before .before .before .before .before .before .before .before .loop-test .taken) _ _ _ _
+    (omega (arith, c .before .before .before .before .before .before .before .before .before .shared-slice-known3 .given (l .i)))
+    (omega (arith, c .before .before .before .before .before .before .before .if1 .left)) (c .before .before .before .before .before .before .if2 .left) in
     (within _ (omega (arith, i .written .wrote .long, i .written .wrote .few, p .ready .long)) g, rw (g .front) (part-room _ _ _ _ _ _ _ _ _ i s (p .room)))
 
 loop-less : tie.Need-loop-less Inv-loop μ-loop
@@ -71,7 +87,8 @@ loop-again : tie.Need-loop-again Inv-loop μ-loop
 loop-again c =
     let l = c .before .before .before .before .before .loop in
     let i = l .inv in
-    part-step _ _ _ _ _ _ _ _ _ i (run-step (i .standing) (c .before .before .before .before .loop-test .taken) _ _ _ _ (omega (arith, c .before .before .before .shared-slice-known3 .given (l .i))) (c .before .if1 .taken)) (added-none (i .written .wrote .few))
+    part-step _ _ _ _ _ _ _ _ _ i (run-step (i .standing) (c .before .before .before .before .loop-test .taken) _ _ _ _
+    (omega (arith, c .before .before .before .shared-slice-known3 .given (l .i))) (c .before .if1 .taken)) (added-none (i .written .wrote .few))
 
 loop-less-2 : tie.Need-loop-less-2 Inv-loop μ-loop
 loop-less-2 c = omega (arith, c .before .before .before .before .before .loop-test .taken)
@@ -80,7 +97,9 @@ loop-again-2 : tie.Need-loop-again-2 Inv-loop μ-loop
 loop-again-2 c =
     let l = c .before .before .before .before .before .before .loop in
     let i = l .inv in
-    part-step _ _ _ _ _ _ _ _ _ i (over-step (i .standing) (c .before .before .before .before .before .loop-test .taken) _ _ _ _ (omega (arith, c .before .before .before .before .shared-slice-known3 .given (l .i))) (omega (arith, c .before .before .if1 .left)) (c .before .if2 .taken)) (added-none (i .written .wrote .few))
+    part-step _ _ _ _ _ _ _ _ _ i (over-step (i .standing) (c .before .before .before .before .before .loop-test .taken) _ _ _ _
+    (omega (arith, c .before .before .before .before .shared-slice-known3 .given (l .i))) (omega (arith, c .before .before .if1 .left))
+    (c .before .if2 .taken)) (added-none (i .written .wrote .few))
 
 loop-less-3 : tie.Need-loop-less-3 Inv-loop μ-loop
 loop-less-3 c = omega (arith, c .before .before .before .before .before .before .before .before .before .before .before .before .before .loop-test .taken)
@@ -89,7 +108,14 @@ loop-again-3 : tie.Need-loop-again-3 Inv-loop μ-loop
 loop-again-3 c =
     let l = c .before .before .before .before .before .before .before .before .before .before .before .before .before .before .loop in
     let i = l .inv in
-    part-step _ _ _ _ _ _ _ _ _ i (apart-step (i .standing) (c .before .before .before .before .before .before .before .before .before .before .before .before .before .loop-test .taken) _ _ _ _ (omega (arith, c .before .before .before .before .before .before .before .before .before .before .before .before .shared-slice-known3 .given (l .i))) (omega (arith, c .before .before .before .before .before .before .before .before .before .before .if1 .left)) (c .before .before .before .before .before .before .before .before .before .if2 .left)) (grown-added _ (c .before .before .before .before .before .before .before .add-piece .ensures) (c .before .before .flush .ensures))
+    part-step _ _ _ _ _ _ _ _ _ i (apart-step (i .standing) (c .before .before .before .before .before .before .before .before .before .before .before .before
+    .before .loop-test .taken) _ _ _ _ (omega (
+      arith,
+      c .before .before .before .before .before .before .before .before .before .before .before .before
+          .shared-slice-known3 .given (l .i),
+    )) (omega (arith, c .before .before .before .before .before .before .before .before .before .before .if1 .left))
+    (c .before .before .before .before .before .before .before .before .before .if2 .left))
+    (grown-added _ (c .before .before .before .before .before .before .before .add-piece .ensures) (c .before .before .flush .ensures))
 
 same-length : tie.Need-same-length Inv-loop μ-loop
 same-length c = c .before .loop .inv .written .wrote .long

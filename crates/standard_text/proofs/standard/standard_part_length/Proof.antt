@@ -10,7 +10,8 @@ use Rattle.standard_text.proofs.standard.standard_part_length.Statement
 use Rattle.standard_text.proofs.standard.standard_part_length.Tie as tie
 
 abbrev Inv-loop : tie.InvT-loop
-Inv-loop cs ns limit signs open₀ total₀ i₀ «open» total i = Counting signs limit (open₀ .length) (open₀ .starred) cs ns total i («open» .length) («open» .starred)
+Inv-loop cs ns limit signs open₀ total₀ i₀ «open» total i =
+    Counting signs limit (open₀ .length) (open₀ .starred) cs ns total i («open» .length) («open» .starred)
 
 abbrev μ-loop : tie.MeasureT-loop
 μ-loop cs ns limit signs open₀ total₀ i₀ «open» total i = List.length cs - i
@@ -37,7 +38,14 @@ add-open : tie.Need-add-open Inv-loop μ-loop
 add-open c =
     let l = c .before .before .before .before .before .loop in
     let i = l .inv in
-    omega (arith, c .before .before .before .shared-slice-known3 .given (l .i), i .small, i .standing .within, i .standing .few, c .before .before .before .before .before .before .before .before .pre .1)
+    omega (
+      arith,
+      c .before .before .before .shared-slice-known3 .given (l .i),
+      i .small,
+      i .standing .within,
+      i .standing .few,
+      c .before .before .before .before .before .before .before .before .pre .1,
+    )
 
 cast-open-2 : tie.Need-cast-open-2 Inv-loop μ-loop
 cast-open-2 c = omega (arith, c .before .before .before .shared-slice-known3 .given (c .before .before .before .before .before .loop .i))
@@ -46,7 +54,14 @@ add-open-2 : tie.Need-add-open-2 Inv-loop μ-loop
 add-open-2 c =
     let l = c .before .before .before .before .before .before .loop in
     let i = l .inv in
-    omega (arith, c .before .before .before .before .shared-slice-known3 .given (l .i), i .small, i .standing .within, i .standing .few, c .before .before .before .before .before .before .before .before .before .pre .1)
+    omega (
+      arith,
+      c .before .before .before .before .shared-slice-known3 .given (l .i),
+      i .small,
+      i .standing .within,
+      i .standing .few,
+      c .before .before .before .before .before .before .before .before .before .pre .1,
+    )
 
 done-length-requires : tie.Need-done-length-requires Inv-loop μ-loop
 done-length-requires c κs = tt
@@ -62,7 +77,8 @@ loop-less c = omega (arith, c .before .before .before .before .loop-test .taken)
 loop-again : tie.Need-loop-again Inv-loop μ-loop
 loop-again c =
     let l = c .before .before .before .before .before .loop in
-    counting-step _ _ _ _ _ _ (l .inv) (run-step (l .inv .standing) (c .before .before .before .before .loop-test .taken) _ _ _ _ (omega (arith, c .before .before .before .shared-slice-known3 .given (l .i))) (c .before .if1 .taken)) nothing (sym (add-zero _))
+    counting-step _ _ _ _ _ _ (l .inv) (run-step (l .inv .standing) (c .before .before .before .before .loop-test .taken) _ _ _ _
+    (omega (arith, c .before .before .before .shared-slice-known3 .given (l .i))) (c .before .if1 .taken)) nothing (sym (add-zero _))
 
 loop-less-2 : tie.Need-loop-less-2 Inv-loop μ-loop
 loop-less-2 c = omega (arith, c .before .before .before .before .before .loop-test .taken)
@@ -70,7 +86,9 @@ loop-less-2 c = omega (arith, c .before .before .before .before .before .loop-te
 loop-again-2 : tie.Need-loop-again-2 Inv-loop μ-loop
 loop-again-2 c =
     let l = c .before .before .before .before .before .before .loop in
-    counting-step _ _ _ _ _ _ (l .inv) (over-step (l .inv .standing) (c .before .before .before .before .before .loop-test .taken) _ _ _ _ (omega (arith, c .before .before .before .before .shared-slice-known3 .given (l .i))) (omega (arith, c .before .before .if1 .left)) (c .before .if2 .taken)) nothing (sym (add-zero _))
+    counting-step _ _ _ _ _ _ (l .inv) (over-step (l .inv .standing) (c .before .before .before .before .before .loop-test .taken) _ _ _ _
+    (omega (arith, c .before .before .before .before .shared-slice-known3 .given (l .i))) (omega (arith, c .before .before .if1 .left))
+    (c .before .if2 .taken)) nothing (sym (add-zero _))
 
 loop-less-3 : tie.Need-loop-less-3 Inv-loop μ-loop
 loop-less-3 c = omega (arith, c .before .before .before .before .before .loop-test .taken)
@@ -78,7 +96,9 @@ loop-less-3 c = omega (arith, c .before .before .before .before .before .loop-te
 loop-again-3 : tie.Need-loop-again-3 Inv-loop μ-loop
 loop-again-3 c =
     let l = c .before .before .before .before .before .before .loop in
-    counting-step _ _ _ _ _ _ (l .inv) (apart-step (l .inv .standing) (c .before .before .before .before .before .loop-test .taken) _ _ _ _ (omega (arith, c .before .before .before .before .shared-slice-known3 .given (l .i))) (omega (arith, c .before .before .if1 .left)) (c .before .if2 .left)) (c .done-length .ensures) refl
+    counting-step _ _ _ _ _ _ (l .inv) (apart-step (l .inv .standing) (c .before .before .before .before .before .loop-test .taken) _ _ _ _
+    (omega (arith, c .before .before .before .before .shared-slice-known3 .given (l .i))) (omega (arith, c .before .before .if1 .left))
+    (c .before .if2 .left)) (c .done-length .ensures) refl
 
 returns : tie.Need-returns Inv-loop μ-loop
 returns c = counting-end _ _ _ _ _ _ (c .before .loop .inv) (c .loop-test .left)

@@ -17,14 +17,22 @@ add-u64-requires c κs = search needs
 add-u64-requires-2 : tie.Need-add-u64-requires-2
 add-u64-requires-2 c κs =
     let s = c .before .before .before .before .before in
-    let t = s .before .before .before .before .before .before .before .before .before .three-pieces in
-    (omega (arith, t .ensures .detailed .room), omega arith, s .before .before .before .before .before .before .before .before .before .before .before .before .before .before .before .before .before .before .pre .words .number)
+    let t = s .before .before .before .before .before .before .before .before .before .three-pieces in (
+      omega (arith, t .ensures .detailed .room),
+      omega arith,
+      s .before .before .before .before .before .before .before .before .before .before .before .before
+          .before .before .before .before .before .before .pre .words .number,
+    )
 
 add-u64-requires-3 : tie.Need-add-u64-requires-3
 add-u64-requires-3 c κs =
     let s = c .before .before .before .before .before .before .before .before .before .before in
-    let t = s .before .before .before .before .before .before .before .before .before .three-pieces in
-    (omega (arith, t .ensures .partial .room), omega arith, s .before .before .before .before .before .before .before .before .before .before .before .before .before .before .before .before .before .before .pre .words .number)
+    let t = s .before .before .before .before .before .before .before .before .before .three-pieces in (
+      omega (arith, t .ensures .partial .room),
+      omega arith,
+      s .before .before .before .before .before .before .before .before .before .before .before .before
+          .before .before .before .before .before .before .pre .words .number,
+    )
 
 add-star-requires : tie.Need-add-star-requires
 add-star-requires c κs =

@@ -4,7 +4,8 @@ use Prim.Native.Nat.{_-_}
 use mathlib.Core.Bool.{true, false}
 use native.Mathlib.Omega.{arith}
 use lib.ListN as List
-use Rattle.standard_text.proofs.StandardThree.{Walking, walking-starts, walking-run, gap-at, gap-few, walking-gap, walking-shown, walking-room, walking-ends}
+use Rattle.standard_text.proofs.StandardThree.{Walking, walking-starts, walking-run, gap-at, gap-few}
+use Rattle.standard_text.proofs.StandardThree.{walking-gap, walking-shown, walking-room, walking-ends}
 use Rattle.standard_text.proofs.three.three_pieces.Statement.{statement}
 use Rattle.standard_text.proofs.three.three_pieces.Tie as tie
 

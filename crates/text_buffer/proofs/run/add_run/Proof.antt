@@ -13,7 +13,8 @@ add-ended-requires : tie.Need-add-ended-requires
 add-ended-requires c κs = search needs
 
 sub-result : tie.Need-sub-result
-sub-result c = omega (arith, c .before .before .add-ended .ensures .next, length-append (runText (c .before .before .before .before .before .args .run)) (32 ∷ []))
+sub-result c =
+    omega (arith, c .before .before .add-ended .ensures .next, length-append (runText (c .before .before .before .before .before .args .run)) (32 ∷ []))
 
 same-length : tie.Need-same-length
 same-length c = search needs

@@ -15,8 +15,11 @@ put-buffer-requires-2 c κs =
 
 put-buffer-requires-3 : tie.Need-put-buffer-requires-3
 put-buffer-requires-3 c κs =
-    let p = c .before .before .before .before .before .before .before .before .before .before .before .before .before .pre in
-    (p .third, room-next _ _ (c .before .before .before .put-buffer2 .ensures) (room-next _ _ (c .before .before .before .before .before .before .before .put-buffer .ensures) (p .room)))
+    let p = c .before .before .before .before .before .before .before .before .before .before .before .before .before .pre in (
+      p .third,
+      room-next _ _ (c .before .before .before .put-buffer2 .ensures)
+          (room-next _ _ (c .before .before .before .before .before .before .before .put-buffer .ensures) (p .room)),
+    )
 
 same-length : tie.Need-same-length
 same-length c = search needs

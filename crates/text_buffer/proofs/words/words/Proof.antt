@@ -75,7 +75,8 @@ slice-aggregate-set-row-5 c = search needs
 
 set-row-requires-5 : tie.Need-set-row-requires-5
 set-row-requires-5 c κs =
-    let w = c .before .before .before .before .before .before .before .before .before .before .before .before .before .before .before .before .before .before .before in
+    let w = c .before .before .before .before .before .before .before .before .before .before .before .before .before .before .before .before
+    .before .before .before in
     (omega arith, omega (arith, word-count (star w)))
 
 slice-aggregate-set-signs : tie.Need-slice-aggregate-set-signs
