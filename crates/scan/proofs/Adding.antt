@@ -55,7 +55,7 @@ starts w =
     }
 
 module _ {cs ns : List ℕ} {a b c d e f i : ℕ} (g : Adding cs ns a b c d e f i) where
-  -- each sum is small ..
+  -- each sum is small
   pub low : (a ≤ 1048576) × (b ≤ 1048576) × (c ≤ 1048576) × (d ≤ 1048576) × (e ≤ 1048576) × (f ≤ 1048576)
   low =
       let ts = paired cs ns in
