@@ -163,7 +163,7 @@ fn joined_part(
     Done { run: last, to }
 }
 
-// The same, for long charts of short tokens, which the processor cannot foresee: no branch but for joins hangs on them.
+// The same, for long charts of short tokens, which the processor cannot predict: no branch but for joins depends on them.
 fn dense_joined_part(
     cs: &[u8],
     ns: &[u32],
@@ -320,7 +320,7 @@ fn detailed_part_length(cs: &[u8], ns: &[u32], run: Run) -> Tally
     }
 }
 
-// How long a part of a text is in which runs join: no branch hangs on the tokens but for numbers of 100 and more.
+// How long a part of a text is in which runs join: no branch depends on the tokens but for numbers of 100 and more.
 fn joined_part_length(cs: &[u8], ns: &[u32], limit: u32, run: Run) -> Tally
     requires { ⌜ TokensBehind (run .class) (now cs) (now ns) × (run .length ≤ 2 ^ 62) ⌝ }
     ensures { λ r. ⌜ SnMeasured limit run (now (cs .entry)) (now (ns .entry)) r ⌝ }

@@ -157,7 +157,7 @@ pub fn standard_part(
     StandardDone { piece: open, to }
 }
 
-// The same, for long charts of short tokens: no branch hangs on the tokens, which the processor cannot foresee there.
+// The same, for long charts of short tokens: no branch depends on the tokens, which the processor cannot predict there.
 pub fn dense_part(
     cs: &[u8],
     ns: &[u32],

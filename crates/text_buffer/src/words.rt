@@ -59,8 +59,8 @@ fn set_signs(words: &mut [u32], row: usize, most: usize, dash: u32, slash: u32, 
     set_same(words, row + most + 1, 1, bar);
 }
 
-// The table, filled by whoever writes texts, once, and lent. The numbers below 100. By class: the marks; what stands before and what stands behind a token's length; what
-// stands behind a run's length, without and with a star. By length: the signs of SN and of standard texts.
+// The table, filled by whoever writes texts, once, and lent. The numbers below 100. By class: the marks; what stands before and what stands behind a
+// token's length; what stands behind a run's length, without and with a star. By length: the signs of SN and of standard texts.
 pub fn words() -> [u32; 192]
     ensures { λ r. ⌜ Words r ⌝ }
 {
