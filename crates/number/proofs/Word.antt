@@ -9,7 +9,7 @@ use native.Mathlib.Numerals.{add-one}
 use native.Mathlib.Omega.{arith}
 use lib.Dec.{eqb}
 use lib.ListN.{length, take, set, length-set}
-use lib.Seq.{length-take-le}
+use lib.Seq.{length-take-le, take-append-le}
 use borrow.Author.Tests.{eqb-true, eqb-false}
 use Rattle.number.specs.Digits.{digits}
 use Rattle.number.specs.Grown.{Grown}
@@ -30,13 +30,6 @@ word-count {w = w} h = sym (length-take-le (w / 16777216) _ (h .short)) ∙ ap l
 pub word-on : (xs : List ℕ) {ys : List ℕ} {v w : ℕ} → Word ys v → Word (xs ++ wordText v) w → Word (xs ++ ys) w
 word-on xs h g = rw (h .text) at g
 
--- of three bytes, no more than two
-first-two : (l a b c : ℕ) → l ≤ 2 → take l (a ∷ b ∷ []) ≡ take l (a ∷ b ∷ c ∷ [])
-first-two zero a b c s = refl
-first-two (suc zero) a b c s = refl
-first-two (suc (suc zero)) a b c s = refl
-first-two (suc (suc (suc l))) a b c s = absurd (omega arith)
-
 -- a byte before a word of up to two
 pub byte-before : (b w : ℕ) → b < 256 → b ≢ 0 → w / 16777216 ≤ 2 → Word (byteText b ++ wordText w) ((w / 16777216 + 1) * 16777216 + w % 65536 * 256 + b)
 byte-before b w l z s =
@@ -49,17 +42,9 @@ byte-before b w l z s =
     let top : r / 65536 ≡ (w / 16777216 + 1) * 256 + w / 256 % 256 = omega arith in
     let third : r / 65536 % 256 ≡ w / 256 % 256 = rw top (omega arith) in
     record {
-      text = rw (byte-text b z, many, first, second, third, add-one) (ap (λ (xs : List ℕ). b ∷ xs) (first-two (w / 16777216) _ _ _ s));
+      text = rw (byte-text b z, many, first, second, third, add-one) (ap (λ (xs : List ℕ). b ∷ xs) (sym (take-append-le (w / 16777216) (w % 256 ∷ w / 256 % 256 ∷ []) (w / 65536 % 256 ∷ []) s)));
       short = omega arith;
     }
-
--- of four bytes, no more than three
-first-of : (l a b c d : ℕ) → l ≤ 3 → take l (a ∷ b ∷ c ∷ d ∷ []) ≡ take l (a ∷ b ∷ c ∷ [])
-first-of zero a b c d s = refl
-first-of (suc zero) a b c d s = refl
-first-of (suc (suc zero)) a b c d s = refl
-first-of (suc (suc (suc zero))) a b c d s = refl
-first-of (suc (suc (suc (suc l)))) a b c d s = absurd (omega arith)
 
 -- three bytes of which the first l are kept, and one behind them
 pub stored-first : {old : List ℕ} {k : ℕ} (l a b c d : ℕ) → k + 4 ≤ length old → l ≤ 3
@@ -71,7 +56,7 @@ stored-first {old} {k} l a b c d h s =
     let more : Grown two (set (set two (k + 2) c) (k + 3) d) (k + 2) (c ∷ d ∷ []) (k + 2 + 2) =
     rw e at (stored-two {old = two} {k = k + 2} c d (omega (arith, z))) in
     let g = kept {old = old} {k = k} l (a ∷ b ∷ c ∷ d ∷ []) (omega arith) (omega arith) (grown (a ∷ b ∷ []) (c ∷ d ∷ []) (stored-two a b (omega arith)) more) in
-    rw (first-of l a b c d s) at g
+    rw (take-append-le l (a ∷ b ∷ c ∷ []) (d ∷ []) s) at g
 
 -- a word's text
 pub worded : {old new : List ℕ} {k r : ℕ} {xs : List ℕ} {w : ℕ} → Word xs w → Grown old new k (wordText w) r → Grown old new k xs r

@@ -47,7 +47,7 @@ struct Bounds {
     more: u32,
 }
 
-// There is no other class: with the last arm the compiler chooses among the five without a branch, which on class 4 would often be predicted wrong.
+// There is no other class: with a last arm for one, the compiler does not branch on class 4, which would often be predicted wrong.
 fn bounds_of(class: u8) -> Bounds
     requires { ⌜ class ≤ 4 ⌝ }
     ensures { λ r. ⌜ Bounded class r ⌝ }

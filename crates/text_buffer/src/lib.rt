@@ -1,4 +1,4 @@
-// Texts in a buffer: bytes, words of a table, numbers, runs and gaps.
+// Texts in a buffer: bytes, runs and gaps, and the table of words.
 pub mod buffer;
 pub mod gap;
 pub mod put;

@@ -1,7 +1,5 @@
 -- `text_buffer::words::words` meets its contract.
 -- Assumes nothing.
-use Prim.Native.Nat.{_/_, _≤_}
-use mathlib.Core.List.{[], _∷_}
 use native.Mathlib.Omega.{arith}
 use borrow.Author.Needs.{needs}
 use Rattle.rules.specs.Bytes.{bytes}
