@@ -21,8 +21,9 @@ use Rattle.rules.specs.Reduced.{Item, run, item, signOf, joins, joinFrom, short
 use Rattle.rules.specs.Texts.{word, strung}
 use Rattle.rules.proofs.Steps.{drop-run, simple-run, short-long}
 use Rattle.rules.specs.Slices.{paired}
-use Rattle.text_buffer.specs.Buffer.{Added, Grown, goesOn}
-use Rattle.text_buffer.specs.Put.{Measured}
+use Rattle.number.specs.Grown.{Grown}
+use Rattle.text_buffer.specs.Buffer.{Added, goesOn}
+use Rattle.text_buffer.specs.Measured.{Measured}
 use Rattle.text_buffer.specs.MayFollow.{MayFollow, firstClass}
 use Rattle.sn_text.specs.Sn.{breakItem, breakTokens, shown}
 use Rattle.text_buffer.specs.Parts.{TokensBehind, PartRoom, PartWritten, PartMeasured}

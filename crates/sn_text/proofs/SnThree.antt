@@ -16,12 +16,12 @@ use Rattle.rules.specs.Texts.{word}
 use Rattle.rules.specs.Slices.{paired, total}
 use Rattle.rules.proofs.Steps.{drop-run, short-long}
 use Rattle.rules.proofs.Cost.{total-append}
-use Rattle.text_buffer.specs.Buffer.{Grown}
+use Rattle.number.specs.Grown.{Grown}
 use Rattle.text_buffer.specs.Parts.{TokensBehind}
 use Rattle.text_buffer.specs.Runs.{runToken, runText}
 use Rattle.text_buffer.specs.declared.run.Run.{Run}
 use Rattle.text_buffer.proofs.Bytes.{measures-short, measured-run, sign-one}
-use Rattle.text_buffer.proofs.Growing.{grown, grown-none}
+use Rattle.number.proofs.Grown.{grown, grown-none}
 use Rattle.sn_text.specs.Sn.{breakItem, breakTokens, shown}
 use Rattle.sn_text.specs.SnParts.{snOf, ended, longBreak, joinClass, RunAt}
 use Rattle.sn_text.specs.SnThree.{Turned, OpenedIn}

@@ -7,7 +7,7 @@ use mathlib.Core.List.{List, [], _∷_, _++_}
 use lib.ListN.{length}
 use Rattle.rules.specs.Chart.{Token, class, len}
 use Rattle.rules.specs.Slices.{paired}
-use Rattle.text_buffer.specs.Buffer.{Grown}
+use Rattle.number.specs.Grown.{Grown}
 use Rattle.text_buffer.specs.Runs.{runToken}
 use Rattle.sn_text.specs.Sn.{breakTokens}
 use Rattle.sn_text.specs.SnParts.{snOf}

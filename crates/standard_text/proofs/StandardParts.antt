@@ -18,9 +18,10 @@ use Rattle.rules.specs.Chart.{Token, token}
 use Rattle.rules.specs.Reduced.{item}
 use Rattle.rules.specs.Texts.{part, strung}
 use Rattle.rules.specs.Slices.{paired}
-use Rattle.text_buffer.specs.Put.{Measured}
+use Rattle.text_buffer.specs.Measured.{Measured}
 use Rattle.text_buffer.specs.MayFollow.{MayFollow}
-use Rattle.text_buffer.specs.Buffer.{Added, Grown, goesOn}
+use Rattle.number.specs.Grown.{Grown}
+use Rattle.text_buffer.specs.Buffer.{Added, goesOn}
 use Rattle.standard_text.specs.Standard.{gapItem, standardFrom, standardPart}
 use Rattle.text_buffer.specs.Parts.{PartMeasured, PartRoom, PartWritten, TokensBehind}
 use Rattle.standard_text.specs.Filled.{doneText, doneTexts, Long, TokenPlace, Filled}

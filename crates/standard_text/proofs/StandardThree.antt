@@ -15,10 +15,10 @@ use Rattle.number.specs.Digits.{digits}
 use Rattle.rules.specs.Chart.{Token, token}
 use Rattle.rules.specs.Texts.{part, star}
 use Rattle.rules.specs.Slices.{paired, total}
-use Rattle.text_buffer.specs.Buffer.{Grown}
+use Rattle.number.specs.Grown.{Grown}
 use Rattle.text_buffer.specs.Parts.{TokensBehind}
 use Rattle.text_buffer.proofs.Bytes.{measures-short, star-short, sign-short, sign-long}
-use Rattle.text_buffer.proofs.Growing.{grown as grown-on, grown-none}
+use Rattle.number.proofs.Grown.{grown as grown-on, grown-none}
 use Rattle.rules.proofs.Pairs.{none-left}
 use Rattle.standard_text.specs.Standard.{gapItem, standardFrom}
 use Rattle.standard_text.specs.Filled.{doneText, TokenPlace}

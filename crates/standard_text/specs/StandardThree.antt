@@ -8,7 +8,7 @@ use mathlib.Core.List.{List, [], _∷_, _++_}
 use lib.ListN.{length}
 use Rattle.rules.specs.Chart.{Token, token}
 use Rattle.rules.specs.Slices.{paired}
-use Rattle.text_buffer.specs.Buffer.{Grown}
+use Rattle.number.specs.Grown.{Grown}
 use Rattle.text_buffer.specs.Words.{Words}
 use Rattle.standard_text.specs.Standard.{standardFrom}
 use Rattle.standard_text.specs.Filled.{doneText}

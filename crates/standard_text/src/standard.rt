@@ -21,11 +21,13 @@ ghost use Rattle.number.specs.Place.{Room};
 ghost use Rattle.rules.specs.Bytes.{bytes};
 ghost use Rattle.rules.specs.Reduced.{gap};
 ghost use Rattle.rules.specs.Texts.{part};
-ghost use Rattle.text_buffer.specs.Buffer.{Added, Grown, Ready};
+ghost use Rattle.number.specs.Grown.{Grown};
+ghost use Rattle.text_buffer.specs.Buffer.{Added, Ready};
 ghost use Rattle.standard_text.specs.Filled.{doneText, doneTexts};
 ghost use Rattle.text_buffer.specs.Parts.{PartMeasured, TokensBehind};
 ghost use Rattle.standard_text.specs.Standard.{standardFrom, standardPart, gapItem};
-ghost use Rattle.text_buffer.specs.Put.{byteText, Measured};
+ghost use Rattle.number.specs.Word.{byteText};
+ghost use Rattle.text_buffer.specs.Measured.{Measured};
 ghost use Rattle.text_buffer.specs.Words.{Words};
 ghost use Rattle.standard_text.specs.StandardParts.{StandardAsked, StandardWritten};
 

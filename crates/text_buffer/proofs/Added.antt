@@ -8,7 +8,8 @@ use lib.ListN.{length, take, length-append}
 use lib.Seq.{length-take-le}
 use Rattle.number.specs.Place.{Room, Wrote}
 use Rattle.number.proofs.Place.{still, room-first, room-next, wrote, wrote-length}
-use Rattle.text_buffer.specs.Buffer.{Added, Grown, Ready, goesOn}
+use Rattle.number.specs.Grown.{Grown}
+use Rattle.text_buffer.specs.Buffer.{Added, Ready, goesOn}
 use Rattle.text_buffer.specs.declared.buffer.Left.{Left}
 
 pub added-none : {buf out : List ℕ} {from : Left} → from .left ≤ 1984 → Added buf out from [] buf out from

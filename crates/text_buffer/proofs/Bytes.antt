@@ -14,7 +14,7 @@ use Rattle.number.specs.Digits.{digits}
 use Rattle.rules.specs.Bytes.{bytes}
 use Rattle.rules.specs.Reduced.{run, gap, signOf}
 use Rattle.rules.specs.Texts.{mark, star, part, word}
-use Rattle.text_buffer.specs.Put.{byteText}
+use Rattle.number.specs.Word.{byteText}
 use Rattle.text_buffer.specs.Words.{side}
 
 pub byte-short : (b : ℕ) → length (byteText b) ≤ 1

@@ -1,5 +1,4 @@
 pub mod Bytes
-pub mod Growing
 pub mod Added
 pub mod Reached
 pub mod Reading

@@ -8,7 +8,7 @@ use lib.ListN.{take}
 use Rattle.number.specs.Place.{Room}
 use Rattle.text_buffer.specs.Three.{ThreeGrown, ThreeRoom}
 use Rattle.text_buffer.specs.declared.three.Three.{Three}
-use Rattle.text_buffer.proofs.Growing.{within}
+use Rattle.number.proofs.Grown.{within}
 
 module _ {a₀ a b₀ b d₀ d xs ys zs : List ℕ} {r : Three} (g : ThreeGrown a₀ a b₀ b d₀ d xs ys zs r) where
   pub three-bytes : take (r .first) a ++ (take (r .second) b ++ take (r .third) d) ≡ xs ++ (ys ++ zs)

@@ -1,10 +1,9 @@
--- What a function leaves that adds a text to a buffer (`Grown`), or to a slice through a buffer.
+-- What a function leaves that adds a text to a slice through a buffer. (What one leaves that adds it to the buffer alone is `Grown` of crate number.)
 -- Assumes nothing.
 use Prim.Native.Nat.{ℕ, _≤_}
 use mathlib.Core.Path.{_≡_}
 use mathlib.Core.List.{List, _++_}
 use lib.ListN.{length, take}
-pub use Rattle.number.specs.Grown.{Grown}
 use Rattle.number.specs.Place.{Wrote}
 use Rattle.text_buffer.specs.Words.{Words}
 use Rattle.text_buffer.specs.declared.buffer.Left.{Left}

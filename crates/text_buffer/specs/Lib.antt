@@ -1,4 +1,4 @@
-pub mod Put
+pub mod Measured
 pub mod Words
 pub mod Buffer
 pub mod Runs

@@ -5,7 +5,7 @@ use mathlib.Core.List.{List, _++_}
 use lib.ListN.{length, take}
 use Rattle.number.specs.Place.{Room}
 use Rattle.rules.specs.Slices.{paired, total}
-use Rattle.text_buffer.specs.Buffer.{Grown}
+use Rattle.number.specs.Grown.{Grown}
 use Rattle.text_buffer.specs.Parts.{TokensBehind}
 use Rattle.text_buffer.specs.Words.{Words}
 use Rattle.text_buffer.specs.declared.three.Three.{Three}

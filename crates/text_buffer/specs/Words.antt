@@ -6,12 +6,10 @@ use mathlib.Core.Bool.{cond}
 use mathlib.Core.List.{List, _++_}
 use lib.Dec.{leb}
 use lib.ListN.{getD}
-pub use Rattle.number.specs.Word.{wordText, Word}
-use Rattle.number.specs.Word.{Numbers}
+use Rattle.number.specs.Word.{byteText, wordText, Word, Numbers}
 use Rattle.rules.specs.Bytes.{bytes}
 use Rattle.rules.specs.Reduced.{signOf}
 use Rattle.rules.specs.Texts.{mark, part, word}
-use Rattle.text_buffer.specs.Put.{byteText}
 
 -- what stands on a side of the length of a token of class c: a run's mark, or the byte b
 abbrev pub side : ℕ → ℕ → List ℕ

@@ -5,8 +5,9 @@ ghost use Prim.Native.Nat.{_<_, _≤_};
 ghost use mathlib.Core.List.{[]};
 ghost use lib.ListN.{length, take};
 ghost use Rattle.number.specs.Place.{Room, Wrote};
-ghost use Rattle.text_buffer.specs.Put.{byteText};
-ghost use Rattle.text_buffer.specs.Buffer.{Added, Grown, goesOn};
+ghost use Rattle.number.specs.Word.{byteText};
+ghost use Rattle.number.specs.Grown.{Grown};
+ghost use Rattle.text_buffer.specs.Buffer.{Added, goesOn};
 
 // The byte `b`, or nothing if it is 0.
 pub fn add_byte(buf: &mut [u8], k: usize, b: u8) -> usize

@@ -8,8 +8,9 @@ ghost use lib.ListN.{length};
 ghost use Rattle.rules.specs.Bytes.{bytes};
 ghost use Rattle.rules.specs.Reduced.{gap, signOf};
 ghost use Rattle.rules.specs.Texts.{part, word};
-ghost use Rattle.text_buffer.specs.Buffer.{Grown};
-ghost use Rattle.text_buffer.specs.Words.{Word, Words};
+ghost use Rattle.number.specs.Grown.{Grown};
+ghost use Rattle.number.specs.Word.{Word};
+ghost use Rattle.text_buffer.specs.Words.{Words};
 
 // By its length, in parentheses.
 pub fn add_in_parens(buf: &mut [u8], k: usize, n: u32, words: &[u32; 192]) -> usize

@@ -14,8 +14,8 @@ ghost use lib.ListN.{length};
 ghost use Rattle.number.specs.Place.{Room, Wrote};
 ghost use Rattle.rules.specs.Bytes.{bytes};
 ghost use Rattle.rules.specs.Texts.{star};
-ghost use Rattle.text_buffer.specs.Buffer.{Grown};
-ghost use Rattle.text_buffer.specs.Put.{Measured};
+ghost use Rattle.number.specs.Grown.{Grown};
+ghost use Rattle.text_buffer.specs.Measured.{Measured};
 ghost use Rattle.text_buffer.specs.Words.{Words};
 ghost use Rattle.text_buffer.specs.Runs.{runText};
 

@@ -9,8 +9,8 @@ ghost use mathlib.Core.List.{_++_};
 ghost use Rattle.number.specs.PlacesSet.{PlacesSet};
 ghost use Rattle.rules.specs.Bytes.{bytes};
 ghost use Rattle.rules.specs.Texts.{mark, star};
-ghost use Rattle.text_buffer.specs.Put.{byteText};
-ghost use Rattle.text_buffer.specs.Words.{Word, Words, side, isWord, classWord, signWord};
+ghost use Rattle.number.specs.Word.{byteText, Word};
+ghost use Rattle.text_buffer.specs.Words.{Words, side, isWord, classWord, signWord};
 
 // The byte on a side of the length of a token of `class`: `b` of a break, a run's mark, or 0 for nothing.
 fn side_byte(b: u8, class: usize) -> u8

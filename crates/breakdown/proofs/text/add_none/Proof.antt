@@ -1,7 +1,7 @@
 -- `breakdown::text::add_none` meets its contract.
 -- Assumes nothing.
 use borrow.Author.Needs.{needs}
-use Rattle.text_buffer.proofs.Growing.{grown-none, wrote-grown}
+use Rattle.number.proofs.Grown.{grown-none, wrote-grown}
 use Rattle.breakdown.proofs.text.add_none.Statement.{statement}
 use Rattle.breakdown.proofs.text.add_none.Tie as tie
 

@@ -7,7 +7,7 @@ use borrow.Author.Needs.{needs}
 use Rattle.rules.specs.Slices.{paired}
 use Rattle.text_buffer.specs.Runs.{runText}
 use Rattle.breakdown.specs.Forms.{textOf}
-use Rattle.text_buffer.proofs.Growing.{within}
+use Rattle.number.proofs.Grown.{within}
 use Rattle.text_buffer.proofs.Added.{added, added-ready, added-room, grown-room, grown-added}
 use Rattle.breakdown.proofs.PartByPart.{none-text, class-here, tokens-behind, tokens-text, tokens-all}
 use Rattle.breakdown.proofs.text.text_of_tokens.Statement.{statement}

@@ -6,7 +6,8 @@ use native.Mathlib.Omega.{arith}
 use lib.ListN.{length, length-append}
 use Rattle.text_buffer.specs.Runs.{runText}
 use Rattle.text_buffer.proofs.Bytes.{run-short}
-use Rattle.text_buffer.proofs.Growing.{grown, dropped, worded}
+use Rattle.number.proofs.Grown.{grown, dropped}
+use Rattle.number.proofs.Word.{worded}
 use Rattle.sn_text.proofs.SnParts.{group-short, group-long}
 use borrow.Author.Needs.{needs}
 use Rattle.sn_text.proofs.sn.add_group.Statement.{statement}

@@ -4,10 +4,12 @@ use mathlib.Core.List.{[], _∷_, _++_}
 use native.Mathlib.Omega.{arith}
 use Rattle.number.specs.Digits.{digits}
 use Rattle.number.proofs.Digits.{at-most}
-use Rattle.text_buffer.specs.Buffer.{Grown}
-use Rattle.text_buffer.specs.Words.{side, Word}
+use Rattle.number.specs.Grown.{Grown}
+use Rattle.number.specs.Word.{Word}
+use Rattle.text_buffer.specs.Words.{side}
 use Rattle.text_buffer.proofs.Bytes.{side-short}
-use Rattle.text_buffer.proofs.Growing.{grown, dropped, worded}
+use Rattle.number.proofs.Grown.{grown, dropped}
+use Rattle.number.proofs.Word.{worded}
 use Rattle.sn_text.proofs.SnParts.{token-text, token-none}
 use borrow.Author.Needs.{needs}
 use Rattle.sn_text.proofs.sn.add_token.Statement.{statement}

@@ -6,7 +6,7 @@ use native.Mathlib.Omega.{arith}
 use lib.ListN.{length}
 use borrow.Author.Needs.{needs}
 use Rattle.text_buffer.proofs.Added.{added-out}
-use Rattle.text_buffer.proofs.Growing.{within}
+use Rattle.number.proofs.Grown.{within}
 use Rattle.text_buffer.proofs.Reading.{tokens-low}
 use Rattle.sn_text.proofs.SnParts.{none-written, Listing, listing-starts, listing-low, listing-room, listing-next, first-room, others-room, listing-ends}
 use Rattle.sn_text.proofs.sn.detailed_part.Statement.{statement}

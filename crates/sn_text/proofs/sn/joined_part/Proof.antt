@@ -7,7 +7,7 @@ use lib.ListN.{length}
 use borrow.Author.Needs.{needs}
 use Rattle.text_buffer.specs.Runs.{runToken}
 use Rattle.text_buffer.proofs.Added.{added-out}
-use Rattle.text_buffer.proofs.Growing.{within}
+use Rattle.number.proofs.Grown.{within}
 use Rattle.sn_text.proofs.SnParts.{Writing, writing-starts, writing-ends, writing-joins, writing-room, writing-next}
 use Rattle.sn_text.proofs.SnParts.{opened-at, opened-low, no-break, adjacent, adjacent-text}
 use Rattle.sn_text.proofs.sn.joined_part.Statement.{statement}

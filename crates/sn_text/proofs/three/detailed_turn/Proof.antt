@@ -6,7 +6,7 @@ use lib.ListN.{length-append}
 use borrow.Author.Needs.{needs}
 use Rattle.text_buffer.specs.Runs.{runText}
 use Rattle.text_buffer.proofs.Bytes.{run-short}
-use Rattle.text_buffer.proofs.Growing.{grown}
+use Rattle.number.proofs.Grown.{grown}
 use Rattle.sn_text.proofs.SnThree.{none-joins, behind-text, turned-apart}
 use Rattle.sn_text.proofs.three.detailed_turn.Statement.{statement}
 use Rattle.sn_text.proofs.three.detailed_turn.Tie as tie

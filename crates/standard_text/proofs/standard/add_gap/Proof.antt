@@ -1,7 +1,7 @@
 -- `standard_text::standard::add_gap` meets its contract.
 -- Assumes nothing.
 use native.Mathlib.Omega.{arith}
-use Rattle.text_buffer.proofs.Growing.{worded}
+use Rattle.number.proofs.Word.{worded}
 use borrow.Author.Needs.{needs}
 use Rattle.standard_text.proofs.standard.add_gap.Statement.{statement}
 use Rattle.standard_text.proofs.standard.add_gap.Tie as tie

@@ -3,7 +3,7 @@
 use mathlib.Core.List.{[], append-nil}
 use native.Mathlib.Omega.{arith}
 use borrow.Author.Tests.{eq-eqb, ne-eqb}
-use Rattle.text_buffer.proofs.Growing.{grown, dropped, within}
+use Rattle.number.proofs.Grown.{grown, dropped, within}
 use Rattle.text_buffer.proofs.Bytes.{byte-short, in-parens}
 use borrow.Author.Needs.{needs}
 use Rattle.standard_text.proofs.standard.add_length.Statement.{statement}

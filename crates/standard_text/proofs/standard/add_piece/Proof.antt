@@ -3,7 +3,7 @@
 use native.Mathlib.Omega.{arith}
 use Rattle.number.proofs.Digits.{at-most}
 use Rattle.text_buffer.proofs.Bytes.{star-short}
-use Rattle.text_buffer.proofs.Growing.{grown}
+use Rattle.number.proofs.Grown.{grown}
 use borrow.Author.Needs.{needs}
 use Rattle.standard_text.proofs.standard.add_piece.Statement.{statement}
 use Rattle.standard_text.proofs.standard.add_piece.Tie as tie

@@ -5,7 +5,7 @@ use mathlib.Core.Path.{_≡_}
 use native.Mathlib.Omega.{arith}
 use Rattle.text_buffer.specs.Buffer.{Added}
 use Rattle.standard_text.specs.Filled.{doneTexts}
-use Rattle.text_buffer.proofs.Growing.{within}
+use Rattle.number.proofs.Grown.{within}
 use Rattle.text_buffer.proofs.Added.{added-none, added-out}
 use Rattle.standard_text.proofs.StandardParts.{done-room, done-step}
 use Rattle.standard_text.proofs.standard.put_pieces.Statement.{statement}

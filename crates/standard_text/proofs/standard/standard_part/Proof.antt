@@ -3,7 +3,7 @@
 use Prim.Native.Nat.{_-_}
 use native.Mathlib.Omega.{arith}
 use lib.ListN as List
-use Rattle.text_buffer.proofs.Growing.{within}
+use Rattle.number.proofs.Grown.{within}
 use Rattle.text_buffer.proofs.Added.{added-none, added-out, grown-added}
 use Rattle.standard_text.proofs.StandardParts.{Parted, run-step, over-step, apart-step, part-starts, part-room, part-step, part-end}
 use Rattle.standard_text.proofs.standard.standard_part.Statement.{statement}

@@ -3,7 +3,7 @@
 use mathlib.Core.Bool.{true}
 use native.Mathlib.Omega.{arith}
 use borrow.Author.Needs.{needs}
-use Rattle.text_buffer.proofs.Growing.{grown-none}
+use Rattle.number.proofs.Grown.{grown-none}
 use Rattle.standard_text.proofs.StandardThree.{turned-over, turned-apart, done-short}
 use Rattle.standard_text.proofs.three.simple_turn.Statement.{statement}
 use Rattle.standard_text.proofs.three.simple_turn.Tie as tie

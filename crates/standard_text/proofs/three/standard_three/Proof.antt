@@ -3,7 +3,7 @@
 use native.Mathlib.Omega.{arith}
 use borrow.Author.Needs.{needs}
 use Rattle.number.proofs.Digits.{at-most}
-use Rattle.text_buffer.proofs.Growing.{grown-none}
+use Rattle.number.proofs.Grown.{grown-none}
 use Rattle.standard_text.proofs.StandardThree.{opened-ends}
 use Rattle.standard_text.proofs.three.standard_three.Statement.{statement}
 use Rattle.standard_text.proofs.three.standard_three.Tie as tie

@@ -4,7 +4,7 @@ use mathlib.Core.List.{[], _∷_}
 use native.Mathlib.Omega.{arith}
 use borrow.Author.Needs.{needs}
 use Rattle.number.proofs.Word.{byte-text}
-use Rattle.text_buffer.proofs.Growing.{stored, dropped}
+use Rattle.number.proofs.Grown.{stored, dropped}
 use Rattle.text_buffer.proofs.buffer.add_byte.Statement.{statement}
 use Rattle.text_buffer.proofs.buffer.add_byte.Tie as tie
 

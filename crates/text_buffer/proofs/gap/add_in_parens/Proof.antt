@@ -3,7 +3,7 @@
 use mathlib.Core.List.{[], _∷_}
 use native.Mathlib.Omega.{arith}
 use Rattle.number.proofs.Digits.{at-most}
-use Rattle.text_buffer.proofs.Growing.{grown}
+use Rattle.number.proofs.Grown.{grown}
 use borrow.Author.Needs.{needs}
 use Rattle.text_buffer.proofs.gap.add_in_parens.Statement.{statement}
 use Rattle.text_buffer.proofs.gap.add_in_parens.Tie as tie

@@ -3,10 +3,11 @@
 use native.Mathlib.Omega.{arith}
 use Rattle.number.proofs.Digits.{at-most}
 use Rattle.rules.specs.Texts.{mark}
-use Rattle.text_buffer.specs.Buffer.{Grown}
-use Rattle.text_buffer.specs.Words.{Word}
+use Rattle.number.specs.Grown.{Grown}
+use Rattle.number.specs.Word.{Word}
 use Rattle.text_buffer.proofs.Bytes.{mark-short, ended-run}
-use Rattle.text_buffer.proofs.Growing.{grown, worded}
+use Rattle.number.proofs.Grown.{grown}
+use Rattle.number.proofs.Word.{worded}
 use borrow.Author.Needs.{needs}
 use Rattle.text_buffer.proofs.run.add_ended.Statement.{statement}
 use Rattle.text_buffer.proofs.run.add_ended.Tie as tie

@@ -4,7 +4,7 @@ use native.Mathlib.Omega.{arith}
 use mathlib.Core.List.{[], _∷_}
 use lib.ListN.{length-append}
 use Rattle.text_buffer.specs.Runs.{runText}
-use Rattle.text_buffer.proofs.Growing.{but-last}
+use Rattle.number.proofs.Grown.{but-last}
 use borrow.Author.Needs.{needs}
 use Rattle.text_buffer.proofs.run.add_run.Statement.{statement}
 use Rattle.text_buffer.proofs.run.add_run.Tie as tie

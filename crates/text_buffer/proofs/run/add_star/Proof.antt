@@ -2,7 +2,7 @@
 -- Assumes nothing.
 use mathlib.Core.List.{[], _∷_}
 use native.Mathlib.Omega.{arith}
-use Rattle.text_buffer.proofs.Growing.{stored, dropped}
+use Rattle.number.proofs.Grown.{stored, dropped}
 use borrow.Author.Needs.{needs}
 use Rattle.text_buffer.proofs.run.add_star.Statement.{statement}
 use Rattle.text_buffer.proofs.run.add_star.Tie as tie

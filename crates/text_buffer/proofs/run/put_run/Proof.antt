@@ -1,7 +1,7 @@
 -- `text_buffer::run::put_run` meets its contract.
 -- Assumes nothing.
 use native.Mathlib.Omega.{arith}
-use Rattle.text_buffer.proofs.Growing.{within}
+use Rattle.number.proofs.Grown.{within}
 use borrow.Author.Needs.{needs}
 use Rattle.text_buffer.proofs.run.put_run.Statement.{statement}
 use Rattle.text_buffer.proofs.run.put_run.Tie as tie

@@ -8,7 +8,8 @@ use native.Mathlib.Omega.{arith}
 use lib.ListN.{getD}
 use Rattle.rules.specs.Bytes.{bytes}
 use Rattle.rules.specs.Texts.{mark, star}
-use Rattle.text_buffer.specs.Words.{Word, Words}
+use Rattle.number.specs.Word.{Word}
+use Rattle.text_buffer.specs.Words.{Words}
 use borrow.Author.Needs.{needs}
 use Rattle.text_buffer.proofs.words.end_word.Statement.{statement}
 use Rattle.text_buffer.proofs.words.end_word.Tie as tie

@@ -3,7 +3,7 @@
 use native.Mathlib.Omega.{arith}
 use borrow.Author.Needs.{needs}
 use Rattle.rules.specs.Bytes.{bytes}
-use Rattle.text_buffer.specs.Words.{Word}
+use Rattle.number.specs.Word.{Word}
 use Rattle.number.proofs.Word.{word-count, word-on}
 use Rattle.text_buffer.proofs.Table.{table-right}
 use Rattle.text_buffer.proofs.words.words.Statement.{statement}

@@ -4,7 +4,6 @@ use Prim.Native.Nat.{ℕ, _≤_}
 use mathlib.Core.Path.{_≡_}
 use mathlib.Core.List.{List}
 use lib.ListN.{length}
-pub use Rattle.number.specs.Word.{byteText}
 
 -- r is the length of the text xs, which has at most `most` bytes
 pub record Measured (xs : List ℕ) (most r : ℕ) : Type 0 where
