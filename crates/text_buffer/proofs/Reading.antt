@@ -12,8 +12,7 @@ use Rattle.rules.specs.Calls.{stepAt}
 use Rattle.rules.specs.declared.ViewToken.{ViewToken}
 use Rattle.rules.proofs.Steps.{map-drop}
 use Rattle.rules.specs.Slices.{leading, paired}
-use Rattle.rules.proofs.View.{first-run}
-use Rattle.rules.proofs.View.{run-fits}
+use Rattle.rules.proofs.View.{first-run, run-fits}
 use Rattle.text_buffer.specs.Parts.{TokensBehind}
 use Rattle.text_buffer.specs.MayFollow.{MayFollow, Alternates, firstClass}
 
