@@ -31,6 +31,8 @@ use Rattle.segments.specs.declared.SegmentsAnswer.{SegmentsAnswer}
 use Rattle.segments.specs.declared.NthSegment.{NthSegment}
 use Rattle.record.specs.Record.{fieldsOf, densities, nameOf, recordNo}
 use Rattle.record.specs.declared.RecordAnswer.{RecordAnswer}
+use Rattle.note_rows.specs.NoteRows.{rowDensities, noteRowsNo}
+use Rattle.note_rows.specs.declared.RowsAnswer.{RowsAnswer}
 use Rattle.chart_texts.specs.Promises.{threeNo}
 use Rattle.chart_texts.specs.declared.ThreeWritten.{ThreeWritten}
 use Rattle.label.specs.Promises.{labelText, labelLevel, labelNo, pairChoice}
@@ -106,6 +108,10 @@ all-accepted =
           let ds₁ = kept q (length (densities (fieldsOf bytes))) 0 z in
           let name₁ = kept q (length (nameOf (fieldsOf bytes))) 0 z in
           (p .answer ∙ rw (ds₁, kept {A = ℕ} q 3 0 z, name₁, z), p .placed ∙ kept q _ _ z);
+      noteRows = λ text old new r p h.
+          let q = noteRowsNo text old in
+          let z : q ≡ 0 = sym (ap (λ (w : RowsAnswer). w .refused) (p .answer)) ∙ h in
+          (p .answer ∙ rw (kept q (length (rowDensities text)) 0 z, z), p .placed ∙ kept q _ _ z);
       view = λ m q v o h. o .left ∙ kept _ m [] (sym (o .number) ∙ h);
       counts = λ m h. kept (firstNo (inDomain m ∷ [])) (counts (classes m)) noCounts h;
       share = λ m h. (kept (firstNo (inDomain m ∷ hasStream m ∷ [])) (share (classes m)) 0 h, share-most (classes m));

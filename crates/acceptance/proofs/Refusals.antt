@@ -19,6 +19,8 @@ use Rattle.segments.specs.declared.SegmentsAnswer.{SegmentsAnswer}
 use Rattle.segments.specs.declared.NthSegment.{NthSegment}
 use Rattle.record.specs.Record.{fieldsOf, densities, nameOf, recordNo}
 use Rattle.record.specs.declared.RecordAnswer.{RecordAnswer}
+use Rattle.note_rows.specs.NoteRows.{rowDensities, noteRowsNo}
+use Rattle.note_rows.specs.declared.RowsAnswer.{RowsAnswer}
 use Rattle.chart_texts.specs.Promises.{threeNo}
 use Rattle.chart_texts.specs.declared.ThreeWritten.{ThreeWritten}
 use Rattle.label.specs.Promises.{labelText, labelLevel, labelNo}
@@ -78,6 +80,11 @@ refusals =
           let ds₀ = refused q (length (densities (fieldsOf bytes))) 0 n in
           let name₀ = refused q (length (nameOf (fieldsOf bytes))) 0 n in
           (p .answer ∙ rw (e, ds₀, refused {A = ℕ} q 3 0 n, name₀), p .placed ∙ refused q _ _ n);
+      noteRows = λ text old new r p h.
+          let q = noteRowsNo text old in
+          let e : r .refused ≡ q = ap (λ (w : RowsAnswer). w .refused) (p .answer) in
+          let n : q ≢ 0 = λ z. h (e ∙ z) in
+          (p .answer ∙ rw (e, refused q (length (rowDensities text)) 0 n), p .placed ∙ refused q _ _ n);
       view = λ m q v o h. o .left ∙ refused _ m [] (λ e. h (o .number ∙ e));
       counts = λ m h. refused (firstNo (inDomain m ∷ [])) (counts (classes m)) noCounts h;
       share = λ m h. refused (firstNo (inDomain m ∷ hasStream m ∷ [])) (share (classes m)) 0 h;

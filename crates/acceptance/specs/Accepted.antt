@@ -27,6 +27,9 @@ use Rattle.segments.specs.declared.SegmentsAnswer.{SegmentsAnswer}
 use Rattle.record.specs.Record.{fieldsOf, densities, nameOf}
 use Rattle.record.specs.Promises.{ReadRecord}
 use Rattle.record.specs.declared.RecordAnswer.{RecordAnswer}
+use Rattle.note_rows.specs.NoteRows.{rowDensities}
+use Rattle.note_rows.specs.Promises.{ReadNoteRows}
+use Rattle.note_rows.specs.declared.RowsAnswer.{RowsAnswer}
 use Rattle.chart_texts.specs.Promises.{Breakdowns}
 use Rattle.chart_texts.specs.declared.ThreeWritten.{ThreeWritten}
 use Rattle.label.specs.Promises.{labelText, labelLevel, Label, pairChoice}
@@ -61,6 +64,9 @@ pub record Accepted : Type 0 where
   pub chartRecord : (bytes old new : List ℕ) (r : RecordAnswer) → ReadRecord bytes old new r → r .refused ≡ 0
       → (r ≡ record { refused = 0; measures = length (densities (fieldsOf bytes)); «name_start» = 3; «name_length» = length (nameOf (fieldsOf bytes)) })
       × (new ≡ filled old (densities (fieldsOf bytes)))
+  -- read_note_rows
+  pub noteRows : (text old new : List ℕ) (r : RowsAnswer) → ReadNoteRows text old new r → r .refused ≡ 0
+      → (r ≡ record { refused = 0; measures = length (rowDensities text) }) × (new ≡ filled old (rowDensities text))
   -- stream_tokens, and next_token on a view of the domain
   pub view : (m : List ℕ) (no : ℕ) (v : List ℕ) → Opening m no v → no ≡ 0 → v ≡ m
   pub step : (v : List ℕ) (said : ViewToken) (next : List ℕ) → Step v said next → length v ≤ 1048576 → (said ≡ stepAt 0 v) × (next ≡ afterStep v)

@@ -21,6 +21,8 @@ use Rattle.segments.specs.Promises.{Segmented, noSegment, nthSegment}
 use Rattle.segments.specs.declared.SegmentsAnswer.{SegmentsAnswer}
 use Rattle.record.specs.Promises.{ReadRecord}
 use Rattle.record.specs.declared.RecordAnswer.{RecordAnswer}
+use Rattle.note_rows.specs.Promises.{ReadNoteRows}
+use Rattle.note_rows.specs.declared.RowsAnswer.{RowsAnswer}
 use Rattle.chart_texts.specs.Promises.{Breakdowns}
 use Rattle.chart_texts.specs.declared.ThreeWritten.{ThreeWritten}
 use Rattle.label.specs.Promises.{Label}
@@ -47,6 +49,9 @@ pub record Refusals : Type 0 where
   -- read_chart_record
   pub chartRecord : (bytes old new : List ℕ) (r : RecordAnswer) → ReadRecord bytes old new r → r .refused ≢ 0
       → (r ≡ record { refused = r .refused; measures = 0; «name_start» = 0; «name_length» = 0 }) × (new ≡ old)
+  -- read_note_rows
+  pub noteRows : (text old new : List ℕ) (r : RowsAnswer) → ReadNoteRows text old new r → r .refused ≢ 0
+      → (r ≡ record { refused = r .refused; measures = 0 }) × (new ≡ old)
   -- stream_tokens: a refused view is empty
   pub view : (m : List ℕ) (no : ℕ) (v : List ℕ) → Opening m no v → no ≢ 0 → v ≡ []
   -- calls that lend no slice but the chart's own

@@ -1,12 +1,13 @@
 -- Laws of `Room` and `Wrote`: one text after the other, and from them to `OneText`.
 -- Assumes nothing.
-use Prim.Native.Nat.{ℕ, suc, _+_, _-_, _≤_}
+use Prim.Native.Nat.{ℕ, suc, _+_, _-_, _≤_, _<_}
 use mathlib.Core.Path.{_≡_, refl, sym, ap, _∙_}
 use mathlib.Core.List.{List, [], _∷_, _++_, append-assoc, append-nil}
 use native.Mathlib.Nat.{add-zero, zero-add, add-suc, suc-add}
+use native.Mathlib.Numerals.{add-one}
 use native.Mathlib.Omega.{arith}
-use lib.ListN.{length, take, drop, length-append, length-drop, drop-of-length-le}
-use lib.Seq.{sets, length-sets, sets-eq, take-all, drop-drop}
+use lib.ListN.{length, take, drop, getD, set, length-append, length-drop, drop-of-length-le}
+use lib.Seq.{sets, length-sets, sets-eq, take-suc, take-all, drop-drop}
 use borrow.Rule.Slice.PartMut.{putMid}
 use Rattle.number.specs.Questions.{firstNo, filled, roomFor, OneText}
 use Rattle.number.specs.Place.{Room, Wrote}
@@ -43,6 +44,36 @@ module _ {old : List ℕ} {at : ℕ} where
 -- a text at the slice's start, which has room for it
 pub at-start : (xs old new : List ℕ) (r : ℕ) → length xs ≤ length old → Wrote old new 0 xs r → (r ≡ length xs) × (new ≡ filled old xs)
 at-start xs old new r h g = (g .next ∙ zero-add (length xs), g .bytes ∙ sets-eq xs old 0 (rw zero-add h) ∙ rw zero-add)
+
+-- a list p that is written element by element: those before i are
+module _ (p old : List ℕ) (at : ℕ) where
+  pub record Putting (new : List ℕ) (i : ℕ) : Type 0 where
+    pub within : i ≤ length p
+    pub room : at + length p ≤ length old
+    pub long : length new ≡ length old
+    pub written : Wrote old new at (take i p) (at + i)
+
+  pub put-starts : Room old at p → Putting old 0
+  put-starts r = record { within = omega arith; room = r .fits; long = refl; written = rw (add-zero at) still }
+
+module _ {p old new : List ℕ} {at i : ℕ} (g : Putting p old at new i) where
+  one-more : i < length p → Wrote old (set new (at + i) (getD p i 0)) at (take (i + 1) p) (at + (i + 1))
+  one-more h =
+      let b = getD p i 0 in
+      let one : Wrote new (set new (at + i) b) (at + i) (b ∷ []) (at + (i + 1)) = record { next = omega arith; bytes = refl } in
+      rw (add-one i, take-suc p i 0 h) (rw (add-one i) at (wrote (take i p) (b ∷ []) (g .written) one))
+
+  pub put-step : i < length p → Putting p old at (set new (at + i) (getD p i 0)) (i + 1)
+  put-step h =
+      record {
+        within = omega arith;
+        room = g .room;
+        long = wrote-length (take (i + 1) p) [] (one-more h);
+        written = one-more h;
+      }
+
+  pub put-done : length p ≤ i → Wrote old new at p (at + i)
+  put-done h = rw (take-all i p h) at (g .written)
 
 -- what an accepted call that wrote one text answers and leaves
 pub one-text : (xs old new : List ℕ) (r : ℕ) → length xs ≤ length old → Wrote old new 0 xs r → OneText 0 xs old new (record { refused = 0; length = r })

@@ -1,4 +1,4 @@
-// What is read off a chart, and the chart record.
+// What is read off a chart, the chart record, and note rows.
 use alike::AlikeAnswer;
 use alike::alike;
 use counts::CountsAnswer;
@@ -8,6 +8,8 @@ use counts::share::share;
 use measures::active::active_behind;
 use measures::active::lead_in;
 use measures::class::class_of;
+use note_rows::RowsAnswer;
+use note_rows::read_note_rows;
 use record::RecordAnswer;
 use record::read_chart_record;
 use rules::StreamSegment;
@@ -24,6 +26,7 @@ ghost use Rattle.alike.specs.Promises.{alikeAnswer};
 ghost use Rattle.segments.specs.Promises.{Segmented, nthSegment};
 ghost use Rattle.token_view.specs.Promises.{nthAnswer};
 ghost use Rattle.record.specs.Promises.{ReadRecord};
+ghost use Rattle.note_rows.specs.Promises.{ReadNoteRows};
 ghost use Rattle.puvolamie_c.specs.Parts.{activeRange};
 
 // The active part, by the place of its first measure in the caller's slice and its length.
@@ -102,4 +105,11 @@ pub extern "C" fn pv_read_chart_record(record: &[u8], densities: &mut [u32]) -> 
     ensures { λ r. ⌜ ReadRecord (now («record» .entry)) (now (densities .entry)) (now (densities .exit)) r ⌝ }
 {
     read_chart_record(record, densities)
+}
+
+#[no_mangle]
+pub extern "C" fn pv_read_note_rows(text: &[u8], densities: &mut [u32]) -> RowsAnswer
+    ensures { λ r. ⌜ ReadNoteRows (now (text .entry)) (now (densities .entry)) (now (densities .exit)) r ⌝ }
+{
+    read_note_rows(text, densities)
 }

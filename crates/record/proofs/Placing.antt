@@ -1,49 +1,16 @@
--- The loops of `put_payload` and `place_densities` as lists. Nothing here speaks of code.
+-- The loop of `place_densities` as lists. Nothing here speaks of code.
 -- Assumes nothing.
-use Prim.Native.Nat.{ℕ, _+_, _≤_, _<_}
+use Prim.Native.Nat.{ℕ, _+_, _≤_}
 use mathlib.Core.Path.{_≡_, refl, ap, _∙_}
-use mathlib.Core.List.{List, [], _∷_, _++_, append-assoc, append-nil}
-use native.Mathlib.Numerals.{add-one}
-use native.Mathlib.Nat.{add-zero}
+use mathlib.Core.List.{List, [], _++_, append-assoc, append-nil}
 use native.Mathlib.Omega.{arith}
 use borrow.Author.Tests.{ne-eqb}
-use lib.ListN.{length, take, drop, getD, set}
-use lib.Seq.{take-suc, take-all}
+use lib.ListN.{length, drop}
 use Rattle.number.specs.Place.{Room, Wrote}
 use Rattle.number.proofs.Place.{still, room-first, room-next, wrote, wrote-length, at-start}
 use Rattle.record.specs.Record.{end, cut, fieldsOf, densities}
 use Rattle.record.specs.Steps.{RoomForAll, AllPlaced}
 use Rattle.record.proofs.Fields.{payload, WholeAt}
-
--- the bytes of p before i are written
-module _ (p old : List ℕ) (at : ℕ) where
-  pub record Putting (new : List ℕ) (i : ℕ) : Type 0 where
-    pub within : i ≤ length p
-    pub room : at + length p ≤ length old
-    pub long : length new ≡ length old
-    pub written : Wrote old new at (take i p) (at + i)
-
-  pub put-starts : Room old at p → Putting old 0
-  put-starts r = record { within = omega arith; room = r .fits; long = refl; written = rw (add-zero at) still }
-
-module _ {p old new : List ℕ} {at i : ℕ} (g : Putting p old at new i) where
-  one-more : i < length p → Wrote old (set new (at + i) (getD p i 0)) at (take (i + 1) p) (at + (i + 1))
-  one-more h =
-      let b = getD p i 0 in
-      let one : Wrote new (set new (at + i) b) (at + i) (b ∷ []) (at + (i + 1)) = record { next = omega arith; bytes = refl } in
-      rw (add-one i, take-suc p i 0 h) (rw (add-one i) at (wrote (take i p) (b ∷ []) (g .written) one))
-
-  pub put-step : i < length p → Putting p old at (set new (at + i) (getD p i 0)) (i + 1)
-  put-step h =
-      record {
-        within = omega arith;
-        room = g .room;
-        long = wrote-length (take (i + 1) p) [] (one-more h);
-        written = one-more h;
-      }
-
-  pub put-done : length p ≤ i → Wrote old new at p (at + i)
-  put-done h = rw (take-all i p h) at (g .written)
 
 -- the densities of the fields before `at` are written
 module _ (bytes old : List ℕ) where

@@ -4,7 +4,7 @@ use Prim.Native.Nat.{_-_}
 use native.Mathlib.Omega.{arith}
 use lib.ListN.{length}
 use borrow.Author.Needs.{needs}
-use Rattle.record.proofs.Placing.{Putting, put-starts, put-step, put-done}
+use Rattle.number.proofs.Place.{Putting, put-starts, put-step, put-done}
 use Rattle.record.proofs.place.put_payload.Statement.{statement}
 use Rattle.record.proofs.place.put_payload.Tie as tie
 

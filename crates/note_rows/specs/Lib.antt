@@ -1,0 +1,4 @@
+pub mod NoteRows
+pub mod Steps
+pub mod Promises
+pub mod Laws
