@@ -84,6 +84,10 @@ AT(pv_record_answer, measures, 8);
 AT(pv_record_answer, name_start, 16);
 AT(pv_record_answer, name_length, 24);
 
+SIZE(pv_rows_answer, 16);
+AT(pv_rows_answer, refused, 0);
+AT(pv_rows_answer, measures, 8);
+
 SIZE(pv_sheet, 66056);
 AT(pv_sheet, bytes, 0);
 AT(pv_sheet, length, 66048);

@@ -36,6 +36,9 @@ enum {
     PV_NAME_NOT_FIRST = 10,     /* A name as first field and nowhere else? */
     PV_BAD_NAME = 11,           /* Name of 1 to 64 bytes from 20 to 7E? */
     PV_TOO_FEW_DENSITIES = 12,  /* A place in the density array for each measure? */
+    PV_BAD_LINE = 14,           /* A row, "," or ";", each ended by 0A? */
+    PV_TOO_MANY_ROWS = 15,      /* At most 192 rows in the measure? */
+    PV_BAD_END = 16,            /* The line ";", and nothing after it? */
     PV_NO_SUCH_NUMBER = 100     /* Does the number stand for a mode, or a level? Asked first. */
 };
 
@@ -142,6 +145,11 @@ typedef struct { /* number of densities, place of the name's first byte in the r
     size_t name_length;
 } pv_record_answer;
 
+typedef struct { /* number of densities */
+    uint32_t refused;
+    size_t measures;
+} pv_rows_answer;
+
 typedef struct { /* bytes to print: the first `length` of them */
     uint8_t bytes[66048];
     size_t length;
@@ -208,6 +216,12 @@ pv_pair_part pv_label_pair(
 /* A chart record: its densities, and where its name stands. Questions 8, 9, 10, 11 field by field, then 1, 12. */
 pv_record_answer pv_read_chart_record(
     const uint8_t *bytes, size_t bytes_length, uint32_t *densities, size_t densities_length);
+
+/* Note rows: the density of each measure. A line ends at 0A. A row is a line of four bytes of "0", "1", "2", "3", "4" or "M" and
+ * adds one to its measure if it holds "1", "2" or "4". The line "," ends a measure, the line ";" the last one, and nothing stands
+ * after it. At most text_length / 2 densities, since each measure has a line of two bytes. Questions 14, 15, 16 line by line, then
+ * 1, 12. */
+pv_rows_answer pv_read_note_rows(const uint8_t *text, size_t text_length, uint32_t *densities, size_t densities_length);
 
 /* What the program `sheet` prints for a chart record: name, counts, the six texts of the pass and Total, a line each; or the only
  * line "refused N". Question 13 (at most 16,384 bytes), those of the record, of the pass and of Total. The answer is large. */

@@ -1,5 +1,6 @@
 #!/bin/sh
-# Builds the static library, compiles the header as C and C++, and runs the example and the tests.
+# Builds the static library, compiles the header as C and C++, and runs the example, the tests, and tools/rows_to_record on
+# note rows that are accepted and on some that are refused.
 set -e
 cd "$(dirname "$0")/.."
 c/library.sh
@@ -11,3 +12,11 @@ for program in example test; do
 done
 target/c/example
 target/c/test
+
+tools/rows_to_record A samples/case12.rows | cmp - samples/case12.record
+status=0
+printf '1000\n' | tools/rows_to_record A - > target/c/refused.record 2> target/c/refused.said || status=$?
+[ $status -eq 1 ] || { echo "rows_to_record: status $status of a refusal"; exit 1; }
+cmp /dev/null target/c/refused.record
+echo 'rows_to_record: refused 16: the line ";", and nothing after it?' | cmp - target/c/refused.said
+echo "rows_to_record: the record of case 12, and a refusal"

@@ -491,6 +491,107 @@ static void test_record(void)
     check_record(changed, sizeof bytes, 9, PV_BAD_NAME);
 }
 
+/* ---- note rows */
+
+static void check_rows(const char *rows, size_t places, uint32_t number, const uint32_t *due, size_t measures)
+{
+    size_t size = (GUARD + places + GUARD) * sizeof(uint32_t);
+    uint32_t *area = malloc(size);
+    bool accepted = number == PV_ACCEPTED;
+    memset(area, LEFT, size);
+    pv_rows_answer r = pv_read_note_rows((const uint8_t *)rows, strlen(rows), area + GUARD, places);
+    expect(r.refused == number && r.measures == (accepted ? measures : 0), "note rows are accepted or refused");
+    expect(!accepted || memcmp(area + GUARD, due, measures * sizeof *due) == 0, "densities of note rows");
+    expect(left_over(area, size, sizeof *area, accepted ? measures : 0), "note rows leave the rest");
+    free(area);
+}
+
+static void accept_rows(const char *rows, const uint32_t *due, size_t measures)
+{
+    check_rows(rows, measures, PV_ACCEPTED, due, measures);
+    check_rows(rows, measures + 3, PV_ACCEPTED, due, measures);
+    check_rows(rows, measures - 1, PV_TOO_FEW_DENSITIES, NULL, 0);
+}
+
+static void refuse_rows(const char *rows, uint32_t number)
+{
+    check_rows(rows, 0, number, NULL, 0);
+    check_rows(rows, strlen(rows), number, NULL, 0);
+}
+
+static void test_rows(void)
+{
+    static const char *const bad_lines[] = {
+        ";", ",", "1000", "1000\n;", "\n;\n", "100\n;\n", "10000\n;\n", "1000\r\n;\n",
+        "1000 \n;\n", "1000 ;\n", ",,\n;\n", ";;\n", " ;\n", "5000\n;\n", "/000\n;\n", "00m0\n;\n"};
+    static const char *const bad_ends[] = {"", "1000\n", ",\n", "1000\n,\n0000\n", ";\n\n", ";\n;\n", ";\n1000\n", ";\n?"};
+    const uint32_t due[] = {4, 0, 1, 0};
+    chart_name = "as note rows";
+    accept_rows(";\n", due + 1, 1);
+    accept_rows("4000\n,\n;\n", due + 2, 2);
+    accept_rows("1000\n0200\n0040\n0001\n0003\nM000\n0000\n,\n,\n0000\n124M\n,\n33MM\n;\n", due, 4);
+    for (size_t i = 0; i < sizeof bad_lines / sizeof bad_lines[0]; i++)
+        refuse_rows(bad_lines[i], PV_BAD_LINE);
+    for (size_t i = 0; i < sizeof bad_ends / sizeof bad_ends[0]; i++)
+        refuse_rows(bad_ends[i], PV_BAD_END);
+    expect(pv_read_note_rows(NULL, 0, NULL, 0).refused == PV_BAD_END, "no text at all");
+}
+
+/* A line so many times, and the end of what was written. */
+static char *repeat(char *at, const char *line, size_t times)
+{
+    size_t length = strlen(line);
+    for (size_t i = 0; i < times; i++, at += length)
+        memcpy(at, line, length);
+    *at = '\0';
+    return at;
+}
+
+static void test_full_measures(void)
+{
+    static const struct {
+        const char *lines;
+        uint32_t number;
+    } behind[] = {
+        {"", PV_BAD_END}, {"0000", PV_BAD_LINE}, {"000\n", PV_BAD_LINE}, {"0000\n", PV_TOO_MANY_ROWS}, {"0000\n;\n", PV_TOO_MANY_ROWS}};
+    static char rows[2048];
+    const uint32_t due[] = {192, 192};
+    char *full = repeat(rows, "M124\n", 192);
+    for (size_t i = 0; i < sizeof behind / sizeof behind[0]; i++) {
+        strcpy(full, behind[i].lines);
+        refuse_rows(rows, behind[i].number);
+    }
+    strcpy(full, ";\n");
+    accept_rows(rows, due, 1);
+    full = repeat(full, ",\n", 1);
+    full = repeat(full, "3421\n", 192);
+    strcpy(full, ";\n");
+    accept_rows(rows, due, 2);
+}
+
+/* Rows in the first and the last measure only. */
+static void test_long_rows(size_t measures)
+{
+    char *rows = malloc(2 * measures + 64);
+    uint32_t *due = calloc(measures, sizeof *due);
+    due[0] = 2;
+    due[measures - 1] = 1;
+    strcpy(rows, "1000\n0000\n0240\n");
+    char *last = repeat(rows + strlen(rows), ",\n", measures - 1);
+    strcpy(last, "M300\n4444\n;\n");
+    if (measures <= PV_MOST_MEASURES) {
+        accept_rows(rows, due, measures);
+    } else {
+        refuse_rows(rows, PV_TOO_MANY_MEASURES);
+        check_rows(rows, measures, PV_TOO_MANY_MEASURES, NULL, 0);
+        check_rows(rows, measures - 1, PV_TOO_MANY_MEASURES, NULL, 0);
+        strcpy(last, "M300\n4444\n;\n;");
+        refuse_rows(rows, PV_BAD_END);
+    }
+    free(due);
+    free(rows);
+}
+
 /* ---- what `sheet` prints */
 
 static void check_sheet(const uint8_t *bytes, size_t length, const char *printed)
@@ -557,10 +658,17 @@ int main(void)
     test_numbers_that_stand_for_none();
     test_label_pair();
     test_record();
+    test_rows();
+    test_full_measures();
+    test_long_rows(4096);
+    test_long_rows(4097);
     test_sheet();
     test_domain(PV_MOST_MEASURES - 1);
     test_domain(PV_MOST_MEASURES);
     test_domain(PV_MOST_MEASURES + 1);
+    test_long_rows(PV_MOST_MEASURES - 1);
+    test_long_rows(PV_MOST_MEASURES);
+    test_long_rows(PV_MOST_MEASURES + 1);
     printf("c: %zu checks, %zu failed\n", checks, failures);
     return failures != 0;
 }

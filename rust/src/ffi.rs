@@ -96,6 +96,12 @@ pub struct RecordAnswer {
 }
 
 #[repr(C)]
+pub struct RowsAnswer {
+    pub refused: u32,
+    pub measures: usize,
+}
+
+#[repr(C)]
 pub struct Sheet {
     pub bytes: [u8; 66048],
     pub length: usize,
@@ -141,5 +147,6 @@ calls! {
     fn label as pv_label([m: u32] {out: u8} width: usize) -> LabelWritten;
     fn label_pair as pv_label_pair([first: u8] [second: u8] width: usize) -> PairPart;
     fn read_chart_record as pv_read_chart_record([record: u8] {densities: u32}) -> RecordAnswer;
+    fn read_note_rows as pv_read_note_rows([text: u8] {densities: u32}) -> RowsAnswer;
     fn print_sheet as pv_print_sheet([record: u8]) -> Sheet;
 }

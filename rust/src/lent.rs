@@ -190,3 +190,10 @@ pub fn read_chart_record(record: &[u8], densities: &mut [u32]) -> Result<ChartRe
     };
     Refused::unless(r.refused, read)
 }
+
+/// The densities of note rows; their number is answered, at most one for every two bytes. Questions 14 to 16 line by line, then
+/// 1, 12.
+pub fn read_note_rows(text: &[u8], densities: &mut [u32]) -> Result<usize, Refused> {
+    let r = ffi::read_note_rows(text, densities);
+    Refused::unless(r.refused, r.measures)
+}

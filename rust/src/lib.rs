@@ -1,6 +1,6 @@
 //! Stream breakdowns of dance game charts, by proved calls: the functions and types of `rssp-core`'s `streams`, over the
-//! static library `puvolamie_c`. A chart of more than 1,048,576 measures, and a run symbol for a break, are refused; nothing
-//! else is, and nothing panics.
+//! static library `puvolamie_c`, and a reader of note rows. A chart of more than 1,048,576 measures, a run symbol for a break,
+//! and note rows outside their rules are refused; nothing else is, and nothing panics.
 //!
 //! The functions here allocate their answers. Those of [`lent`] write into slices that the caller lends.
 
@@ -147,6 +147,14 @@ pub fn format_run_symbol(cat: RunDensity, len: usize, star: bool) -> Result<Stri
     text(23, |out| {
         lent::format_run_symbol(cat, len as u64, star, out)
     })
+}
+
+/// The densities of note rows, for the functions above.
+pub fn read_note_rows(text: &[u8]) -> Result<Vec<usize>, Refused> {
+    // Each measure has a line of two bytes.
+    let mut out = vec![0; MOST_MEASURES.min(text.len() / 2)];
+    let measures = lent::read_note_rows(text, &mut out)?;
+    Ok(out.iter().take(measures).map(|&d| d as usize).collect())
 }
 
 /// What the program `sheet` prints for a chart record.

@@ -1,4 +1,4 @@
-//! The paper's charts, through the functions with the original's names.
+//! The paper's charts, through the functions with the original's names, and note rows.
 
 use crate::*;
 
@@ -186,4 +186,60 @@ fn record_view_and_label_of_case_12() {
     );
     assert_eq!(&out[..5], b"2-2-1");
     assert_eq!(lent::label_pair(b"first", b"two", 4), b"two");
+}
+
+#[test]
+fn note_rows_of_case_12() {
+    let rows = include_bytes!("../../samples/case12.rows");
+    let chart = &CHARTS[12];
+    let m = read_note_rows(rows).unwrap();
+    assert_eq!(m, measures(chart));
+    let (sn, standard) = (owned(&chart.texts[..3]), owned(&chart.texts[3..6]));
+    let expected = counts(chart.counts);
+    assert_eq!(compute_stream_outputs(&m), Ok((expected, sn, standard)));
+    let mut longer = [7; 10];
+    assert_eq!(lent::read_note_rows(rows, &mut longer), Ok(9));
+    assert_eq!(longer, [16, 16, 0, 20, 20, 0, 0, 0, 16, 7]);
+    let mut short = [7; 8];
+    let refused = lent::read_note_rows(rows, &mut short);
+    assert_eq!((refused, short), (Err(Refused(12)), [7; 8]));
+}
+
+#[test]
+fn refused_note_rows() {
+    let many = "0000\n".repeat(193) + ";\n";
+    let texts = [
+        ("1000\r\n;\n", 14),
+        (&many[..964], 14),
+        (&many, 15),
+        ("", 16),
+        (";\n;\n", 16),
+    ];
+    for (text, number) in texts {
+        let mut densities = [7; 5];
+        let refused = lent::read_note_rows(text.as_bytes(), &mut densities);
+        assert_eq!((refused, densities), (Err(Refused(number)), [7; 5]));
+        assert_eq!(read_note_rows(text.as_bytes()), Err(Refused(number)));
+    }
+    let words = [
+        "refused 14: a row, \",\" or \";\", each ended by 0A?",
+        "refused 15: at most 192 rows in a measure?",
+        "refused 16: the line \";\", and nothing after it?",
+    ];
+    assert_eq!([14, 15, 16].map(|n| Refused(n).to_string()), words);
+}
+
+#[test]
+fn note_rows_at_the_domains_edge() {
+    let rows = ",\n".repeat(MOST_MEASURES) + "1000\n0040\n;\n";
+    assert_eq!(read_note_rows(rows.as_bytes()), Err(Refused(1)));
+    for places in [0, MOST_MEASURES, MOST_MEASURES + 1] {
+        let mut densities = vec![7; places];
+        let refused = lent::read_note_rows(rows.as_bytes(), &mut densities);
+        assert_eq!(refused, Err(Refused(1)));
+        assert!(densities.iter().all(|&d| d == 7));
+    }
+    let m = read_note_rows(&rows.as_bytes()[2..]).unwrap();
+    assert_eq!((m.len(), m.last()), (MOST_MEASURES, Some(&2)));
+    assert!(m.iter().rev().skip(1).all(|&d| d == 0));
 }

@@ -1,5 +1,5 @@
 //! Compares the crate with the unchanged original: counts, segments, tokens and the seven texts by every call, and the places
-//! of lent slices that must not change.
+//! of lent slices that must not change. The original has no reader of note rows; that is compared with a plain one.
 //!
 //! compare [--quick] [SEED]
 
@@ -8,13 +8,16 @@ mod guarded;
 mod lent;
 #[path = "../../../judge/src/math.rs"]
 mod math;
+mod note_rows;
 mod numbers;
 mod original;
 mod owned;
+mod plain_rows;
 mod random;
 #[path = "../../../judge/src/streams.rs"]
 mod streams;
 mod tally;
+mod texts;
 
 use original::Original;
 use random::Random;
@@ -33,6 +36,7 @@ struct Extent {
     lent_every: u64,
     counted: usize,
     long: usize,
+    rows: note_rows::Extent,
 }
 
 const FULL: Extent = Extent {
@@ -43,6 +47,12 @@ const FULL: Extent = Extent {
     lent_every: 10,
     counted: 300,
     long: 7,
+    rows: note_rows::Extent {
+        small: 8,
+        short: 1_000_000,
+        full: 100_000,
+        long: 10,
+    },
 };
 
 const QUICK: Extent = Extent {
@@ -53,6 +63,12 @@ const QUICK: Extent = Extent {
     lent_every: 20,
     counted: 10,
     long: 2,
+    rows: note_rows::Extent {
+        small: 6,
+        short: 50_000,
+        full: 5_000,
+        long: 1,
+    },
 };
 
 /// The lent slices that a chart is given.
@@ -81,8 +97,9 @@ fn main() -> ExitCode {
     let mut tally = Tally::default();
     let outcome = compare(if quick { &QUICK } else { &FULL }, seed, &mut tally);
     println!(
-        "{} charts, {} comparisons, seed {seed}, {:.1} s",
+        "{} charts, {} texts of note rows, {} comparisons, seed {seed}, {:.1} s",
         tally.charts,
+        tally.texts,
         tally.comparisons,
         start.elapsed().as_secs_f64()
     );
@@ -120,7 +137,7 @@ fn compare(extent: &Extent, seed: u64, tally: &mut Tally) -> Outcome {
     );
     domain_edge(extent, random, tally)?;
     say(tally, "charts at the domain's edge");
-    Ok(())
+    note_rows::compare(&extent.rows, random, tally)
 }
 
 fn say(tally: &Tally, what: &str) {

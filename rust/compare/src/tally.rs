@@ -9,19 +9,20 @@ pub type Outcome = Result<(), String>;
 #[derive(Default)]
 pub struct Tally {
     pub charts: u64,
+    pub texts: u64,
     pub comparisons: u64,
 }
 
 impl Tally {
-    pub fn same<T: PartialEq + Debug>(&mut self, what: &str, ours: T, theirs: T) -> Outcome {
+    pub fn same<T: PartialEq + Debug>(&mut self, what: &str, ours: T, due: T) -> Outcome {
         self.comparisons += 1;
-        if ours == theirs {
+        if ours == due {
             return Ok(());
         }
         Err(format!(
-            "{what}: ours {}, the original's {}",
+            "{what}: ours {}, due {}",
             short(&ours),
-            short(&theirs)
+            short(&due)
         ))
     }
 

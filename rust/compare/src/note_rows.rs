@@ -1,0 +1,122 @@
+//! Note rows: the crate's reader beside a plain one.
+
+use crate::guarded::Guarded;
+use crate::plain_rows;
+use crate::random::Random;
+use crate::tally::{Outcome, Tally};
+use crate::texts;
+use puvolamie::{lent, Refused};
+
+const MARK: u32 = 0xA5A5_A5A5;
+
+/// How much is compared: small texts by their length, random texts by their number, and long texts of each length.
+pub struct Extent {
+    pub small: usize,
+    pub short: u64,
+    pub full: u64,
+    pub long: u64,
+}
+
+pub fn compare(extent: &Extent, random: &mut Random, tally: &mut Tally) -> Outcome {
+    small_texts(extent.small, tally)?;
+    let small = format!("all texts of up to {} bytes", extent.small);
+    say(tally, &format!("{small}, alone and behind a row"));
+    for text in texts::each_byte() {
+        compare_text(&text, tally)?;
+    }
+    say(tally, "every byte at each place of a text");
+    random_texts(extent.short, random, texts::short, tally)?;
+    say(tally, "random note rows, some of them changed");
+    random_texts(extent.full, random, texts::full, tally)?;
+    say(tally, "measures of around 192 rows, some of them changed");
+    for measures in [4095, 4096, 4097, 1_048_575, 1_048_576, 1_048_577] {
+        let long = |random: &mut Random| texts::long(random, measures);
+        random_texts(extent.long, random, long, tally)?;
+    }
+    say(
+        tally,
+        "note rows of around 4,096 measures and at the domain's edge",
+    );
+    Ok(())
+}
+
+fn say(tally: &Tally, what: &str) {
+    println!(
+        "{what}: {} texts, {} comparisons so far",
+        tally.texts, tally.comparisons
+    );
+}
+
+fn small_texts(most: usize, tally: &mut Tally) -> Outcome {
+    for length in 0..=most {
+        for number in 0..texts::small_count(length) {
+            let text = texts::small(length, number);
+            compare_text(&text, tally)?;
+            compare_text(&[b"0100\n", &text[..]].concat(), tally)?;
+        }
+    }
+    Ok(())
+}
+
+/// Each as it is, and with up to three changes.
+fn random_texts(
+    count: u64,
+    random: &mut Random,
+    mut next: impl FnMut(&mut Random) -> Vec<u8>,
+    tally: &mut Tally,
+) -> Outcome {
+    for _ in 0..count {
+        let mut text = next(random);
+        compare_text(&text, tally)?;
+        for _ in 0..3 {
+            texts::change(random, &mut text);
+            compare_text(&text, tally)?;
+        }
+    }
+    Ok(())
+}
+
+fn compare_text(text: &[u8], tally: &mut Tally) -> Outcome {
+    tally.texts += 1;
+    let due = plain_rows::read(text);
+    let lent = match &due {
+        Ok(densities) => accepted(text, densities, tally),
+        Err(number) => refused(text, *number, tally),
+    };
+    lent.and_then(|()| owned(text, due, tally))
+        .map_err(|difference| format!("{difference}\nin the text {}", texts::described(text)))
+}
+
+/// No place, one too few, one for each measure, and more.
+fn accepted(text: &[u8], due: &[u32], tally: &mut Tally) -> Outcome {
+    let measures = due.len();
+    for room in [0, measures - 1] {
+        lent(text, room, Err(12), tally)?;
+    }
+    for room in [measures, measures + 3] {
+        lent(text, room, Ok(due), tally)?;
+    }
+    Ok(())
+}
+
+/// No place, and more than enough.
+fn refused(text: &[u8], number: u32, tally: &mut Tally) -> Outcome {
+    for room in [0, text.len() + 1] {
+        lent(text, room, Err(number), tally)?;
+    }
+    Ok(())
+}
+
+fn lent(text: &[u8], room: usize, due: Result<&[u32], u32>, tally: &mut Tally) -> Outcome {
+    let mut densities = Guarded::new(room, MARK);
+    let r = lent::read_note_rows(text, densities.lend());
+    let answer = due.map(<[u32]>::len).map_err(Refused);
+    tally.same("lent read_note_rows", r, answer)?;
+    densities.compare("lent read_note_rows", due.unwrap_or_default(), tally)
+}
+
+fn owned(text: &[u8], due: Result<Vec<u32>, u32>, tally: &mut Tally) -> Outcome {
+    let wide = |densities: Vec<u32>| densities.into_iter().map(|d| d as usize).collect();
+    let due = due.map(wide).map_err(Refused);
+    tally.same("read_note_rows", puvolamie::read_note_rows(text), due)
+}
