@@ -1,6 +1,6 @@
 //! The charts that are timed.
 
-fn lcg(x: &mut u32) -> u32 {
+pub fn lcg(x: &mut u32) -> u32 {
     *x = x.wrapping_mul(1_664_525).wrapping_add(1_013_904_223);
     *x
 }

@@ -1,9 +1,12 @@
-//! The proved pass beside the unchanged Rust: first that both answer the same, then how long each takes.
+//! The proved pass beside the unchanged Rust: first that both answer the same, then how long each takes. Note rows: `rows`.
 mod loads;
 #[allow(dead_code)]
 #[path = "../../judge/src/math.rs"]
 mod math;
 mod ours;
+#[path = "../../rust/compare/src/plain_rows.rs"]
+mod plain_rows;
+mod rows;
 #[path = "../../judge/src/streams.rs"]
 mod streams;
 use ours::{Counts, Lent};
@@ -136,16 +139,29 @@ fn row(name: &str, charts: &[Vec<u32>]) {
     );
 }
 
-/// With an argument, only the charts whose name has it.
-fn main() {
+/// The charts whose name has the word.
+fn table(only: &str) {
     println!("The same tokens, counts and texts on {} charts and on those below.\n", same_on_all());
     println!("ns per measure, best (median) of the rounds; times faster than the Rust.\n");
     println!("| chart | tokens | Rust | roomy slices | faster | tight slices | faster |");
     println!("|---|---|---|---|---|---|---|");
-    let only = std::env::args().nth(1).unwrap_or_default();
     for (name, charts) in loads::all() {
-        if name.contains(&only) {
+        if name.contains(only) {
             row(name, &charts);
         }
+    }
+}
+
+/// With an argument, only the charts whose name has it, or only the note rows: "rows".
+fn main() {
+    let only = std::env::args().nth(1).unwrap_or_default();
+    if only != "rows" {
+        table(&only);
+    }
+    if only.is_empty() {
+        println!();
+    }
+    if only.is_empty() || only == "rows" {
+        rows::table();
     }
 }

@@ -1,4 +1,4 @@
-//! The proved pass. A slice is passed as pointer and length.
+//! The proved calls. A slice is passed as pointer and length.
 #[repr(C)]
 #[derive(Clone, Copy, Debug, PartialEq)]
 pub struct Counts {
@@ -18,6 +18,12 @@ pub struct Answer {
     pub lengths: [usize; 6],
 }
 
+#[repr(C)]
+pub struct RowsAnswer {
+    pub refused: u32,
+    pub measures: usize,
+}
+
 // The sixth register would hold the second half of `lengths`, and Rust's pair starts behind it: so the slices are passed part by part.
 extern "C" {
     fn pv_compute_stream_outputs(
@@ -30,6 +36,7 @@ extern "C" {
         out: *mut u8,
         out_len: usize,
     ) -> Answer;
+    fn pv_read_note_rows(text: *const u8, text_len: usize, densities: *mut u32, densities_len: usize) -> RowsAnswer;
 }
 
 /// What the pass is lent.
@@ -68,4 +75,8 @@ pub fn pass(m: &[u32], lent: &mut Lent) -> Answer {
             out.len(),
         )
     }
+}
+
+pub fn read_note_rows(text: &[u8], densities: &mut [u32]) -> RowsAnswer {
+    unsafe { pv_read_note_rows(text.as_ptr(), text.len(), densities.as_mut_ptr(), densities.len()) }
 }
