@@ -1,5 +1,5 @@
 #!/bin/sh
-# Builds the static library and the crate, runs its tests, and compares it with the original.
+# Builds the static library and the crate, runs its tests, and compares it with the original, its reader of note rows with a plain one.
 # rust/run.sh [--quick] [SEED]: words are handed to the comparison.
 set -e
 cd "$(dirname "$0")"

@@ -149,7 +149,8 @@ pub fn format_run_symbol(cat: RunDensity, len: usize, star: bool) -> Result<Stri
     })
 }
 
-/// The densities of note rows, for the functions above.
+/// The densities of note rows, for the functions above. A line, ended by 0A, is a row of four bytes of `01234M`, `,` behind a
+/// measure, or `;` behind the last; a row adds one to its measure if it holds `1`, `2` or `4`.
 pub fn read_note_rows(text: &[u8]) -> Result<Vec<usize>, Refused> {
     // Each measure has a line of two bytes.
     let mut out = vec![0; MOST_MEASURES.min(text.len() / 2)];
