@@ -1,9 +1,9 @@
 -- The bytes of a row, and four of them told by numbers. Nothing here speaks of code.
 -- Assumes nothing.
-use Prim.Native.Nat.{ℕ, _+_, _≤_}
-use mathlib.Core.Path.{_≡_, refl, sym}
+use Prim.Native.Nat.{ℕ, zero, suc, _+_, _≤_, _<_}
+use mathlib.Core.Path.{_≡_, refl, sym, _∙_}
 use mathlib.Core.Bool.{Bool, true, false, cond, not, _&&_, _||_}
-use mathlib.Core.List.{[], _∷_}
+use mathlib.Core.List.{List, [], _∷_, _++_}
 use native.Mathlib.Omega.{arith}
 use lib.Dec.{eqb}
 use borrow.Author.Tests.{eqb-false, ne-eqb}
@@ -17,34 +17,28 @@ yes e = record { is = rw e; most = omega arith }
 pub no : {t : Bool} → t ≡ false → Told t 0
 no e = record { is = rw e; most = omega arith }
 
-module _ (b : ℕ) where
-  -- "0" to "4"
-  pub digit : 48 ≤ b → b ≤ 52 → oneOf rowBytes b ≡ true
-  digit g h =
-      split (eqb b 48) (λ e. rw e)
-      (λ e₀. split (eqb b 49) (λ e. rw (e₀, e))
-      (λ e₁. split (eqb b 50) (λ e. rw (e₀, e₁, e))
-      (λ e₂. split (eqb b 51) (λ e. rw (e₀, e₁, e₂, e))
-      (λ e₃. split (eqb b 52) (λ e. rw (e₀, e₁, e₂, e₃, e))
-      (λ e₄. absurd (lost e₀ e₁ e₂ e₃ e₄))))))
-    where
-      lost : eqb b 48 ≡ false → eqb b 49 ≡ false → eqb b 50 ≡ false → eqb b 51 ≡ false → eqb b 52 ≡ false → ⊥
-      lost e₀ e₁ e₂ e₃ e₄ = omega (arith, eqb-false b 48 e₀, eqb-false b 49 e₁, eqb-false b 50 e₂, eqb-false b 51 e₃, eqb-false b 52 e₄)
+-- n numbers from lo on
+abbrev span : ℕ → ℕ → List ℕ
+span lo zero = []
+span lo (suc n) = lo ∷ span (suc lo) n
 
-  -- neither these nor "M"
-  pub no-row-byte : (48 ≤ b → b ≤ 52 → ⊥) → (b ≡ 77 → ⊥) → oneOf rowBytes b ≡ false
-  no-row-byte out m =
-      rw (
-        ne-eqb b 48 (λ e. out (omega arith) (omega arith)),
-        ne-eqb b 49 (λ e. out (omega arith) (omega arith)),
-        ne-eqb b 50 (λ e. out (omega arith) (omega arith)),
-        ne-eqb b 51 (λ e. out (omega arith) (omega arith)),
-        ne-eqb b 52 (λ e. out (omega arith) (omega arith)),
-        ne-eqb b 77 m,
-      )
+module _ (b : ℕ) (xs : List ℕ) where
+  inside : (lo n : ℕ) → lo ≤ b → b < lo + n → oneOf (span lo n ++ xs) b ≡ true
+  inside lo zero g h = absurd (omega arith)
+  inside lo (suc n) g h =
+      split (eqb b lo) (λ e. rw e) (λ e. rw e (inside (suc lo) n (omega (arith, eqb-false b lo e)) (omega arith)))
 
-  pub no-note : (b ≡ 49 → ⊥) → (b ≡ 50 → ⊥) → (b ≡ 52 → ⊥) → oneOf noteBytes b ≡ false
-  no-note e f g = rw (ne-eqb b 49 e, ne-eqb b 50 f, ne-eqb b 52 g)
+  outside : (lo n : ℕ) → (lo ≤ b → b < lo + n → ⊥) → oneOf (span lo n ++ xs) b ≡ oneOf xs b
+  outside lo zero out = refl
+  outside lo (suc n) out = rw (ne-eqb b lo (λ e. out (omega arith) (omega arith))) (outside (suc lo) n (λ g h. out (omega arith) (omega arith)))
+
+-- a byte that is one of several that follow each other, or one more
+module _ (b lo n x : ℕ) where
+  pub among : lo ≤ b → b < lo + n → oneOf (span lo n ++ x ∷ []) b ≡ true
+  among g h = inside b (x ∷ []) lo n g h
+
+  pub not-among : (lo ≤ b → b < lo + n → ⊥) → (b ≡ x → ⊥) → oneOf (span lo n ++ x ∷ []) b ≡ false
+  not-among out ne = outside b (x ∷ []) lo n out ∙ rw (ne-eqb b x ne)
 
 -- four yes
 abbrev all-four : Bool → Bool → Bool → Bool → Bool

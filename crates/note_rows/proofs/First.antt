@@ -14,7 +14,7 @@ use Rattle.number.proofs.Split.{split}
 use Rattle.number.proofs.Each.{none, _&_, All}
 use Rattle.note_rows.specs.NoteRows.{Lines, end, cut, line, before, linesOf, isRow, isByte, isEnd}
 use Rattle.note_rows.specs.Steps.{rowOf, firstRow, firstEnd}
-use Rattle.note_rows.specs.declared.line.Ending.the-variants.{Fault}
+use Rattle.note_rows.specs.declared.line.Ending.the-variants.{Measure, Last, Fault}
 use Rattle.note_rows.proofs.Lines.{never, first-line, is-line, row-long, row-open, the-byte}
 
 -- a text that has bytes has a line, or one that is cut
@@ -152,11 +152,21 @@ module _ (text : List ℕ) (at : ℕ) where
             let first : getD (drop at text) 0 0 ≡ b = first-byte (drop at text) ∙ rw (line-of 1 (drop at text) e (byte-long b l t) .bytes, the-byte b l t) in
             rw add-zero at (sym (byte 0) ∙ first)
 
+  module _ (long : 2 ≤ length text - at) (closed : getD text (at + 1) 0 ≡ 10) where
     -- a line of one byte
-    pub sign : (b : ℕ) → eqb b 10 ≡ false → 2 ≤ length text - at → getD text (at + 1) 0 ≡ 10 → getD text at 0 ≡ b
-        → linesOf (drop at text) ≡ line (b ∷ []) (linesOf (drop (at + 2) text))
-    sign b n long closed e =
+    sign : (b : ℕ) → eqb b 10 ≡ false → getD text at 0 ≡ b → linesOf (drop at text) ≡ line (b ∷ []) (linesOf (drop (at + 2) text))
+    sign b n e =
         let t = drop at text in
         let first : getD t 0 0 ≡ b = byte 0 ∙ rw add-zero e in
         let is : take 1 t ≡ b ∷ [] = one-byte t (omega (arith, left)) ∙ rw first in
         rw (is, drop-drop 2 at text) at (has-line 1 t (omega (arith, left)) (byte 1 ∙ closed) (rw is (n & none)))
+
+    pub a-comma : getD text at 0 ≡ 44 → Measure ≡ firstEnd (linesOf (drop at text))
+    a-comma e = rw (sign 44 refl e)
+
+    -- ";" with bytes behind it, and with none
+    pub bytes-behind : getD text at 0 ≡ 59 → (length text - at ≡ 2 → ⊥) → Fault 16 ≡ firstEnd (linesOf (drop at text))
+    bytes-behind e h = rw (sign 59 refl e, not-ended (drop (at + 2) text) (omega (arith, length-drop (at + 2) text, h)))
+
+    pub none-behind : getD text at 0 ≡ 59 → length text - at ≡ 2 → Last ≡ firstEnd (linesOf (drop at text))
+    none-behind e h = rw (sign 59 refl e, drop-of-length-le text {i = at + 2} (omega arith))

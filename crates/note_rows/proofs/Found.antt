@@ -8,7 +8,7 @@ use native.Mathlib.Omega.{arith}
 use lib.ListN.{length, drop, length-drop}
 use lib.Seq.{drop-drop}
 use Rattle.number.proofs.Split.{split}
-use Rattle.note_rows.specs.NoteRows.{Lines, end, cut, line, linesOf, someOf, noteBytes, isRow, note, isByte, linesNo}
+use Rattle.note_rows.specs.NoteRows.{Lines, end, cut, line, linesOf, someOf, noteBytes, isRow, note, isByte, isEnd, linesNo}
 use Rattle.note_rows.specs.Steps.{firstRow, firstEnd}
 use Rattle.note_rows.specs.declared.line.Ending.{Ending}
 use Rattle.note_rows.specs.declared.line.Ending.the-variants.{Measure, Last, Fault}
@@ -67,14 +67,26 @@ sign-in text at k (line l ls) e a n =
     split (isByte 44 l)
     (λ t. rw (rw t at a) (line-at 1 text at (rw (the-byte 44 l t) at e) refl))
     (λ t. split (isByte 59 l)
-    (λ u. rw (rw (t, u) at a) (line-at 1 text at (rw (the-byte 59 l u) at e) refl))
+    (λ u. split (isEnd ls)
+    (λ v. rw (rw (t, u, v) at a) (line-at 1 text at (rw (the-byte 59 l u) at e) refl))
+    (λ v. absurd (n (ap byteOf (rw (t, u, v) at a)))))
     (λ u. absurd (n (ap byteOf (rw (t, u) at a)))))
 
 -- such a line there
 pub sign-found : (text : List ℕ) (at : ℕ) (k : Ending) → k ≡ firstEnd (linesOf (drop at text)) → (byteOf k ≡ 0 → ⊥) → LineAt 1 text at (byteOf k ∷ [])
 sign-found text at k a n = sign-in text at k (linesOf (drop at text)) refl a n
 
--- none of the three: its number
+-- nothing stands behind ";"
+ends : (ls : Lines) → Last ≡ firstEnd (line (59 ∷ []) ls) → isEnd ls ≡ true
+ends end a = refl
+ends cut a = never (cc)
+ends (line l ls) a = never (cc)
+
+pub last-ends : {text : List ℕ} {at : ℕ} → LineAt 1 text at (59 ∷ []) → Last ≡ firstEnd (linesOf (drop at text))
+    → isEnd (linesOf (drop (at + 2) text)) ≡ true
+last-ends {text} {at} f a = ends (linesOf (drop (at + 2) text)) (rw (f .lines) at a)
+
+-- none of the three, or something behind ";": its number
 pub fault-found : {row n : ℕ} (ls : Lines) (rows : ℕ) → row ≡ firstRow ls → 2 ≤ row → Fault n ≡ firstEnd ls → (linesNo rows ls ≡ n) × (n ≡ 0 → ⊥)
 fault-found {row} {n} end rows a h f = let e : n ≡ 16 = cc in (sym e, λ z. omega arith)
 fault-found {row} {n} cut rows a h f = let e : n ≡ 14 = cc in (sym e, λ z. omega arith)
@@ -83,7 +95,12 @@ fault-found {row} {n} (line l ls) rows a h f =
     split (isByte 44 l)
     (λ t. let g = rw t at f in never (cc))
     (λ t. split (isByte 59 l)
-    (λ u. let g = rw (t, u) at f in never (cc))
+    (λ u. split (isEnd ls)
+    (λ v. let g = rw (t, u, v) at f in never (cc))
+    (λ v.
+    let g = rw (t, u, v) at f in
+    let e : n ≡ 16 = cc in
+    (rw (r, t, u, v) (sym e), λ z. omega arith)))
     (λ u.
     let g = rw (t, u) at f in
     let e : n ≡ 14 = cc in

@@ -7,18 +7,17 @@ use mathlib.Core.List.{List, [], _∷_, _++_, map, append-assoc}
 use native.Mathlib.Nat.{add-zero, zero-add, add-assoc}
 use native.Mathlib.Numerals.{add-one}
 use native.Mathlib.Omega.{arith}
-use lib.ListN.{length, drop, set, length-drop, drop-of-length-le}
+use lib.ListN.{length, drop, set}
 use borrow.Author.Tests.{lt-ltb}
 use Rattle.number.specs.Questions.{accepted}
 use Rattle.number.specs.Place.{Wrote}
 use Rattle.number.proofs.Split.{split}
 use Rattle.number.proofs.Place.{still, wrote, wrote-length}
-use Rattle.note_rows.specs.NoteRows.{Lines, end, cut, line, linesOf, isRow, note, isByte, addRow, measures, density, rowDensities, linesNo, textNo}
-use Rattle.note_rows.specs.Steps.{firstRow, firstEnd, MeasuresRead, refusalOf}
+use Rattle.note_rows.specs.NoteRows.{Lines, end, cut, line, linesOf, isRow, note, isByte, isEnd, addRow, measures, density, rowDensities, linesNo, textNo}
+use Rattle.note_rows.specs.Steps.{firstRow, firstEnd, MeasuresRead, acceptedWith, refusalOf}
 use Rattle.note_rows.specs.declared.RowsAnswer.{RowsAnswer}
 use Rattle.note_rows.specs.declared.line.Ending.the-variants.{Fault}
 use Rattle.note_rows.proofs.Lines.{row-not-byte}
-use Rattle.note_rows.proofs.First.{not-ended}
 use Rattle.note_rows.proofs.Found.{LineAt, RowAt, adds-one, fault-found}
 
 -- the densities of some lines
@@ -145,24 +144,15 @@ module _ {text old new : List ℕ} {at rows notes count : ℕ} (g : Passing text
 
   -- ";"
   module _ (f : LineAt 1 text at (59 ∷ [])) where
-    pub behind : {r : RowsAnswer} → (length text - at ≡ 2 → ⊥) → r ≡ refusalOf 16 → MeasuresRead text old new r
-    unfolding isRow
-    behind h k =
-        let some = not-ended (drop (at + 2) text) (omega (arith, length-drop (at + 2) text, f .within, h)) in
-        refuse 16 (rw (f .lines, some)) (λ z. omega arith) k
-
-    module _ (h : length text - at ≡ 2) where
-      nothing : linesOf (drop (at + 2) text) ≡ end
-      nothing = rw (drop-of-length-le text {i = at + 2} (omega arith))
-
+    module _ (h : isEnd (linesOf (drop (at + 2) text)) ≡ true) where
       none : textNo text ≡ 0
       unfolding isRow
-      none = g .asked ∙ rw (f .lines, nothing)
+      none = g .asked ∙ rw (f .lines, h)
 
       whole : rowDensities text ≡ g .passed ++ notes ∷ []
       whole = g .all ∙ rw (f .lines, add-zero notes)
 
-      pub done : MeasuresRead text old (set new count notes) (record { refused = 0; measures = count + 1 })
-      done =
+      pub done : {r : RowsAnswer} → r ≡ acceptedWith (count + 1) → MeasuresRead text old (set new count notes) r
+      done k =
           let many : length (rowDensities text) ≡ count + 1 = ap length whole ∙ sym (one-more .next ∙ zero-add _) in
-          record { answer = rw (none, many); kept = λ z. one-more .bytes ∙ sym (rw whole) }
+          record { answer = rw (none, many) k; kept = λ z. one-more .bytes ∙ sym (rw whole) }

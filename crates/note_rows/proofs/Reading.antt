@@ -13,7 +13,7 @@ use Rattle.number.specs.Place.{Room}
 use Rattle.number.proofs.Place.{at-start}
 use Rattle.rules.specs.Chart.{densitiesNo}
 use Rattle.note_rows.specs.NoteRows.{rowDensities, textNo, noteRowsNo}
-use Rattle.note_rows.specs.Steps.{MeasuresRead, refusalOf}
+use Rattle.note_rows.specs.Steps.{MeasuresRead, acceptedWith, refusalOf}
 use Rattle.note_rows.specs.Promises.{ReadNoteRows}
 use Rattle.note_rows.specs.declared.RowsAnswer.{RowsAnswer}
 use Rattle.note_rows.proofs.Passing.{refused-is}
@@ -66,18 +66,17 @@ module _ {text before after : List ℕ} {k : RowsAnswer} (g : MeasuresRead text 
           pub has-room : k .measures ≤ length before → Room old 0 (take (k .measures) after)
           has-room h = record { fits = rw (all-kept h) (omega (arith, many, fits)) }
 
-          accepts : {new : List ℕ} → new ≡ sets old 0 (rowDensities text) → ReadNoteRows text old new (record { refused = 0; measures = k .measures })
-          accepts e =
+          accepts : {new : List ℕ} {r : RowsAnswer} → new ≡ sets old 0 (rowDensities text) → r ≡ acceptedWith (k .measures) → ReadNoteRows text old new r
+          accepts e a =
               let yes : noteRowsNo text old ≡ 0 =
               then-chart old ∙ rw (many, le-leb (k .measures) 1048576 few, le-leb (k .measures) (length old) fits) in
-              record { answer = rw (yes, k-is); placed = rw yes (e ∙ at-first (rowDensities text) old (rw many fits)) }
+              record { answer = rw (yes, many) a; placed = rw yes (e ∙ at-first (rowDensities text) old (rw many fits)) }
 
           -- all of them were kept
-          pub by-place : {new : List ℕ} → k .measures ≤ length before → new ≡ sets old 0 (take (k .measures) after)
-              → ReadNoteRows text old new (record { refused = 0; measures = k .measures })
+          pub by-place : {new : List ℕ} {r : RowsAnswer} → k .measures ≤ length before → new ≡ sets old 0 (take (k .measures) after)
+              → r ≡ acceptedWith (k .measures) → ReadNoteRows text old new r
           by-place h e = accepts (e ∙ rw (all-kept h))
 
           -- they were read once more
-          pub by-reading : {new : List ℕ} {r : RowsAnswer} → MeasuresRead text old new r
-              → ReadNoteRows text old new (record { refused = 0; measures = k .measures })
+          pub by-reading : {new : List ℕ} {q r : RowsAnswer} → MeasuresRead text old new q → r ≡ acceptedWith (k .measures) → ReadNoteRows text old new r
           by-reading f = accepts (f .kept (asked ∙ z))

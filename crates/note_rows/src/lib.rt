@@ -6,7 +6,7 @@ use crate::measures::read_measures;
 ghost use mathlib.Core.Path.{_≡_};
 ghost use lib.Seq.{sets};
 ghost use Rattle.number.specs.Place.{Room};
-ghost use Rattle.note_rows.specs.Steps.{refusalOf};
+ghost use Rattle.note_rows.specs.Steps.{acceptedWith, refusalOf};
 ghost use Rattle.note_rows.specs.Promises.{ReadNoteRows};
 
 // The refusal's number, 0 where the text is accepted, and the number of densities.
@@ -14,6 +14,15 @@ ghost use Rattle.note_rows.specs.Promises.{ReadNoteRows};
 pub struct RowsAnswer {
     pub refused: u32,
     pub measures: usize,
+}
+
+fn accepted(measures: usize) -> RowsAnswer
+    ensures { λ r. ⌜ r ≡ acceptedWith measures ⌝ }
+{
+    RowsAnswer {
+        refused: 0,
+        measures,
+    }
 }
 
 // A refusal: the other number is 0.
@@ -57,11 +66,8 @@ pub fn read_note_rows(text: &[u8], densities: &mut [u32]) -> RowsAnswer
     }
     if measures <= 4096 {
         place(&kept[..measures], densities);
-    } else {
-        read_measures(text, densities);
+        return accepted(measures);
     }
-    RowsAnswer {
-        refused: 0,
-        measures,
-    }
+    read_measures(text, densities);
+    accepted(measures)
 }

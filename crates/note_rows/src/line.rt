@@ -11,9 +11,9 @@ ghost use Rattle.note_rows.specs.Steps.{Told, rowOf, firstRow, firstEnd}
 pub enum Ending {
     // The line ",", which ends a measure.
     Measure,
-    // The line ";", which ends the last.
+    // The line ";", which ends the last, with nothing behind it.
     Last,
-    // Neither: the question's number.
+    // Neither, or bytes behind ";": the question's number.
     Fault(u32),
 }
 
@@ -21,36 +21,24 @@ pub enum Ending {
 fn row_byte(b: u8) -> u32
     ensures { λ r. ⌜ Told (oneOf rowBytes b) r ⌝ }
 {
-    if b == b'M' {
-        return 1;
+    match b {
+        b'0'..=b'4' | b'M' => 1,
+        _ => 0,
     }
-    if b < b'0' {
-        return 0;
-    }
-    if b'4' < b {
-        return 0;
-    }
-    1
 }
 
 // 0 for a byte that makes a row count, "1", "2" or "4", else 1.
 fn quiet_byte(b: u8) -> u32
     ensures { λ r. ⌜ Told (not (oneOf noteBytes b)) r ⌝ }
 {
-    if b == b'1' {
-        return 0;
+    match b {
+        b'1'..=b'2' | b'4' => 0,
+        _ => 1,
     }
-    if b == b'2' {
-        return 0;
-    }
-    if b == b'4' {
-        return 0;
-    }
-    1
 }
 
-// What four bytes add to their measure, 2 if they are no row. Sums and not `&&`: which notes a row holds is a branch that no processor
-// predicts.
+// What four bytes add to their measure, 2 if they are no row. Each sum is compiled to a few operations on all four bytes; with `&&`, or
+// with `if` in place of `match` above, each byte is a branch, and which notes a row holds no processor predicts.
 fn row_of(a: u8, b: u8, c: u8, d: u8) -> u32
     ensures { λ r. ⌜ r ≡ rowOf (a ∷ b ∷ c ∷ d ∷ []) ⌝ }
 {
@@ -95,8 +83,11 @@ pub fn end_at(text: &[u8], at: usize) -> Ending
     if text[at] == b',' {
         return Ending::Measure;
     }
-    if text[at] == b';' {
-        return Ending::Last;
+    if text[at] != b';' {
+        return Ending::Fault(14);
     }
-    Ending::Fault(14)
+    if left != 2 {
+        return Ending::Fault(16);
+    }
+    Ending::Last
 }

@@ -1,5 +1,6 @@
 // The measures of note rows, in one pass over the text.
 use crate::RowsAnswer;
+use crate::accepted;
 use crate::line::Ending;
 use crate::line::end_at;
 use crate::line::row_at;
@@ -46,14 +47,8 @@ pub fn read_measures(text: &[u8], densities: &mut [u32]) -> RowsAnswer
                     at += 2;
                 }
                 Ending::Last => {
-                    if text.len() - at != 2 {
-                        return refusal(16);
-                    }
                     keep(densities, measures, density);
-                    return RowsAnswer {
-                        refused: 0,
-                        measures: measures + 1,
-                    };
+                    return accepted(measures + 1);
                 }
                 Ending::Fault(no) => {
                     return refusal(no);

@@ -52,29 +52,37 @@ place-requires c κs =
     let h = t .before in
     has-room (h .before .before .before .read-measures .ensures) (h .if1 .left) (t .if2 .left) (u .if3 .left) (search needs)
 
-read-measures-requires-2 : tie.Need-read-measures-requires-2
-read-measures-requires-2 c κs = search needs
+accepted-requires : tie.Need-accepted-requires
+accepted-requires c κs = search needs
 
 same-length : tie.Need-same-length
 same-length c = search needs
 
 returns-4 : tie.Need-returns-4
 returns-4 c =
-    let f = c .before .before .before .before .before in
+    let f = c .before .before .before .before .before .before in
     let u = f .before in
     let t = u .before in
     let h = t .before in
-    by-place (h .before .before .before .read-measures .ensures) (h .if1 .left) (t .if2 .left) (u .if3 .left) (search needs) (c .before .before .place .ensures)
+    let g = h .before .before .before .read-measures .ensures in
+    by-place g (h .if1 .left) (t .if2 .left) (u .if3 .left) (search needs) (c .before .before .before .place .ensures) (c .accepted .ensures)
+
+read-measures-requires-2 : tie.Need-read-measures-requires-2
+read-measures-requires-2 c κs = search needs
+
+accepted-requires-2 : tie.Need-accepted-requires-2
+accepted-requires-2 c κs = search needs
 
 same-length-2 : tie.Need-same-length-2
 same-length-2 c = search needs
 
 returns-5 : tie.Need-returns-5
 returns-5 c =
-    let u = c .before .before .before .before .before in
+    let u = c .before .before .before .before .before .before in
     let t = u .before in
     let h = t .before in
-    by-reading (h .before .before .before .read-measures .ensures) (h .if1 .left) (t .if2 .left) (u .if3 .left) (c .before .before .read-measures2 .ensures)
+    let g = h .before .before .before .read-measures .ensures in
+    by-reading g (h .if1 .left) (t .if2 .left) (u .if3 .left) (c .before .before .before .read-measures2 .ensures) (c .accepted2 .ensures)
 
 pub read-note-rows-spec : {M : Type 1} → statement M
 read-note-rows-spec =
@@ -91,8 +99,10 @@ read-note-rows-spec =
     array-share-prefix-kept
     slice-aggregate-place
     place-requires
-    read-measures-requires-2
+    accepted-requires
     same-length
     returns-4
+    read-measures-requires-2
+    accepted-requires-2
     same-length-2
     returns-5)

@@ -1,8 +1,7 @@
 -- `note_rows::line::end_at` meets its contract.
 -- Assumes nothing.
-use mathlib.Core.Path.{refl}
 use borrow.Author.Needs.{needs}
-use Rattle.note_rows.proofs.First.{nothing-left, one-left, longer, sign, other-byte}
+use Rattle.note_rows.proofs.First.{nothing-left, one-left, longer, other-byte, a-comma, bytes-behind, none-behind}
 use Rattle.note_rows.proofs.line.end_at.Statement.{statement}
 use Rattle.note_rows.proofs.line.end_at.Tie as tie
 
@@ -39,24 +38,33 @@ returns-4 c =
     let t = c .before .before in
     let h = t .before .before in
     let a = h .before .before .args in
-    rw (sign (a .text .now) (a .at) (h .before .if1 .left) 44 refl (h .if2 .left) (t .if3 .left) (c .if4 .taken))
+    a-comma (a .text .now) (a .at) (h .if2 .left) (t .if3 .left) (c .if4 .taken)
 
 shared-slice-read-if5 : tie.Need-shared-slice-read-if5
 shared-slice-read-if5 c = search needs
 
 returns-5 : tie.Need-returns-5
 returns-5 c =
-    let t = c .before .before .before .before in
-    let h = t .before .before in
-    let a = h .before .before .args in
-    rw (sign (a .text .now) (a .at) (h .before .if1 .left) 59 refl (h .if2 .left) (t .if3 .left) (c .if5 .taken))
-
-returns-6 : tie.Need-returns-6
-returns-6 c =
     let u = c .before .before in
     let h = u .before .before .before .before in
     let a = h .before .before .args in
-    other-byte (a .text .now) (a .at) (h .before .if1 .left) (u .if4 .left) (c .if5 .left)
+    other-byte (a .text .now) (a .at) (h .before .if1 .left) (u .if4 .left) (c .if5 .taken)
+
+returns-6 : tie.Need-returns-6
+returns-6 c =
+    let s = c .before in
+    let t = s .before .before .before .before in
+    let h = t .before .before in
+    let a = h .before .before .args in
+    bytes-behind (a .text .now) (a .at) (h .if2 .left) (t .if3 .left) (s .if5 .left) (c .if6 .taken)
+
+returns-7 : tie.Need-returns-7
+returns-7 c =
+    let s = c .before in
+    let t = s .before .before .before .before in
+    let h = t .before .before in
+    let a = h .before .before .args in
+    none-behind (a .text .now) (a .at) (h .if2 .left) (t .if3 .left) (s .if5 .left) (c .if6 .left)
 
 pub end-at-spec : {M : Type 1} → statement M
 end-at-spec =
@@ -72,4 +80,5 @@ end-at-spec =
     returns-4
     shared-slice-read-if5
     returns-5
-    returns-6)
+    returns-6
+    returns-7)

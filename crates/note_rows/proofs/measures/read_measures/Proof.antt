@@ -7,8 +7,8 @@ use native.Mathlib.Omega.{arith}
 use lib.ListN.{length}
 use borrow.Author.Needs.{needs}
 use Rattle.note_rows.specs.declared.line.Ending.the-variants.{Measure, Last}
-use Rattle.note_rows.proofs.Found.{LineAt, RowAt, row-found, sign-found}
-use Rattle.note_rows.proofs.Passing.{Passing, starts, too-many, next-row, kept-long, next-measure, behind, done, faulty}
+use Rattle.note_rows.proofs.Found.{LineAt, RowAt, row-found, sign-found, last-ends}
+use Rattle.note_rows.proofs.Passing.{Passing, starts, too-many, next-row, kept-long, next-measure, done, faulty}
 use Rattle.note_rows.proofs.measures.read_measures.Statement.{statement}
 use Rattle.note_rows.proofs.measures.read_measures.Tie as tie
 
@@ -93,54 +93,44 @@ loop-again-2 c =
 enum-told-2 : tie.Need-enum-told-2 Inv-loop μ-loop
 enum-told-2 c = search needs
 
-sub-if3 : tie.Need-sub-if3 Inv-loop μ-loop
-sub-if3 c = search needs
-
-refusal-requires-2 : tie.Need-refusal-requires-2 Inv-loop μ-loop
-refusal-requires-2 c κs = search needs
-
-same-length-2 : tie.Need-same-length-2 Inv-loop μ-loop
-same-length-2 c = c .before .before .before .before .before .before .before .loop .inv .long
-
-returns-2 : tie.Need-returns-2 Inv-loop μ-loop
-returns-2 c =
-    let m = c .before .before in
-    behind (m .before .before .before .before .before .loop .inv) (semicolon m) (c .before .if3 .taken) (c .refusal2 .ensures)
-
 keep-requires-2 : tie.Need-keep-requires-2 Inv-loop μ-loop
 keep-requires-2 c κs = search needs
 
-add-t15 : tie.Need-add-t15 Inv-loop μ-loop
-add-t15 c =
-    let m = c .before .before .before .before .before in
+add-accepted : tie.Need-add-accepted Inv-loop μ-loop
+add-accepted c =
+    let m = c .before .before .before .before in
     omega (arith, semicolon m .within, m .before .before .before .before .before .loop .inv .slow)
 
-same-length-3 : tie.Need-same-length-3 Inv-loop μ-loop
-same-length-3 c =
-    let m = c .before .before .before .before .before in
-    rw (c .before .before .keep2 .ensures) (kept-long (m .before .before .before .before .before .loop .inv))
+accepted-requires : tie.Need-accepted-requires Inv-loop μ-loop
+accepted-requires c κs = search needs
 
-returns-3 : tie.Need-returns-3 Inv-loop μ-loop
-returns-3 c =
-    let e = c .before .before .before .before in
-    let m = e .before in
-    rw (c .before .before .keep2 .ensures) (done (m .before .before .before .before .before .loop .inv) (semicolon m) (e .if3 .left))
+same-length-2 : tie.Need-same-length-2 Inv-loop μ-loop
+same-length-2 c =
+    let m = c .before .before .before .before .before in
+    rw (c .before .before .before .keep2 .ensures) (kept-long (m .before .before .before .before .before .loop .inv))
+
+returns-2 : tie.Need-returns-2 Inv-loop μ-loop
+returns-2 c =
+    let m = c .before .before .before .before .before in
+    let f = semicolon m in
+    let ends = last-ends f (sym (m .enum-told2 .given .1) ∙ m .before .before .end-at .ensures) in
+    rw (c .before .before .before .keep2 .ensures) (done (m .before .before .before .before .before .loop .inv) f ends (c .accepted .ensures))
 
 enum-known-ending : tie.Need-enum-known-ending Inv-loop μ-loop
 enum-known-ending c = search needs
 
-refusal-requires-3 : tie.Need-refusal-requires-3 Inv-loop μ-loop
-refusal-requires-3 c κs = search needs
+refusal-requires-2 : tie.Need-refusal-requires-2 Inv-loop μ-loop
+refusal-requires-2 c κs = search needs
 
-same-length-4 : tie.Need-same-length-4 Inv-loop μ-loop
-same-length-4 c = c .before .before .before .before .before .before .before .loop .inv .long
+same-length-3 : tie.Need-same-length-3 Inv-loop μ-loop
+same-length-3 c = c .before .before .before .before .before .before .before .loop .inv .long
 
-returns-4 : tie.Need-returns-4 Inv-loop μ-loop
-returns-4 c =
+returns-3 : tie.Need-returns-3 Inv-loop μ-loop
+returns-3 c =
     let m = c .before .before in
     let e = m .before .before in
     let n = e .before in
-    faulty (n .before .before .loop .inv) (n .before .row-at .ensures) (n .if1 .left) (sym (m .ending .given .1) ∙ e .end-at .ensures) (c .refusal3 .ensures)
+    faulty (n .before .before .loop .inv) (n .before .row-at .ensures) (n .if1 .left) (sym (m .ending .given .1) ∙ e .end-at .ensures) (c .refusal2 .ensures)
 
 pub read-measures-spec : {M : Type 1} → statement M
 read-measures-spec =
@@ -166,15 +156,12 @@ read-measures-spec =
     loop-less-2
     loop-again-2
     enum-told-2
-    sub-if3
-    refusal-requires-2
+    keep-requires-2
+    add-accepted
+    accepted-requires
     same-length-2
     returns-2
-    keep-requires-2
-    add-t15
-    same-length-3
-    returns-3
     enum-known-ending
-    refusal-requires-3
-    same-length-4
-    returns-4)
+    refusal-requires-2
+    same-length-3
+    returns-3)
