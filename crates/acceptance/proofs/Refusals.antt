@@ -8,6 +8,7 @@ use mathlib.Core.List.{List, [], _∷_}
 use lib.ListN.{length, drop, replicate}
 use Rattle.number.specs.Questions.{firstNo, accepted, filled}
 use Rattle.number.specs.declared.Written.{Written}
+use Rattle.number.proofs.Questions.{refused-is as refused}
 use Rattle.rules.specs.Chart.{inDomain, classes, tokens, counts, noCounts}
 use Rattle.rules.specs.Texts.{passKinds, lengthsOf}
 use Rattle.rules.specs.Calls.{segments, share, stepAt, labelChoice}
@@ -28,11 +29,6 @@ use Rattle.label.specs.declared.LabelWritten.{LabelWritten}
 use Rattle.stream_outputs.specs.Promises.{passNo}
 use Rattle.stream_outputs.specs.declared.StreamOutputs.{StreamOutputs}
 use Rattle.acceptance.specs.Refusals.{Refusals}
-
--- a call that is not accepted gives the refused answer
-refused : {A : Type 0} (q : ℕ) (a b : A) → q ≢ 0 → accepted q a b ≡ b
-refused zero a b h = absurd (h refl)
-refused (suc q) a b h = refl
 
 first-accepted : (ss : List StreamSegment) → firstSegment ss .refused ≡ 0
 first-accepted [] = refl

@@ -10,12 +10,12 @@ use native.Mathlib.Omega.{arith}
 use lib.Dec.{eqb}
 use lib.ListN.{length, take, drop, getD, length-append, length-drop, take-append-drop, drop-of-length-le}
 use lib.Seq.{drop-drop, getD-drop, take-at, drop-at, getD-at, drop-cons}
-use Rattle.number.proofs.Split.{split}
+use Rattle.number.proofs.Split.{split, never}
 use Rattle.number.proofs.Each.{none, _&_, All}
 use Rattle.note_rows.specs.NoteRows.{Lines, end, cut, line, before, linesOf, isRow, isByte, isEnd}
 use Rattle.note_rows.specs.Steps.{rowOf, firstRow, firstEnd}
 use Rattle.note_rows.specs.declared.line.Ending.the-variants.{Measure, Last, Fault}
-use Rattle.note_rows.proofs.Lines.{never, first-line, is-line, row-long, row-open, the-byte}
+use Rattle.note_rows.proofs.Lines.{first-line, is-line, row-long, row-open, the-byte}
 
 -- a text that has bytes has a line, or one that is cut
 before-end : (b : ℕ) (ls : Lines) → before b ls ≡ end → ⊥

@@ -7,12 +7,12 @@ use mathlib.Core.List.{List, [], _∷_}
 use native.Mathlib.Omega.{arith}
 use lib.ListN.{length, drop, length-drop}
 use lib.Seq.{drop-drop}
-use Rattle.number.proofs.Split.{split}
+use Rattle.number.proofs.Split.{split, never}
 use Rattle.note_rows.specs.NoteRows.{Lines, end, cut, line, linesOf, someOf, noteBytes, isRow, note, isByte, isEnd, linesNo}
 use Rattle.note_rows.specs.Steps.{firstRow, firstEnd}
 use Rattle.note_rows.specs.declared.line.Ending.{Ending}
 use Rattle.note_rows.specs.declared.line.Ending.the-variants.{Measure, Last, Fault}
-use Rattle.note_rows.proofs.Lines.{never, row-long, the-byte}
+use Rattle.note_rows.proofs.Lines.{row-long, the-byte}
 use Rattle.note_rows.proofs.First.{line-of}
 
 -- a row adds one at most

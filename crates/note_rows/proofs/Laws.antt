@@ -10,11 +10,11 @@ use lib.Dec.{ltb, eqb}
 use lib.ListN.{length, getD, length-map, List·getD-map}
 use borrow.Author.Tests.{ltb-true}
 use Rattle.number.specs.Questions.{accepted}
-use Rattle.number.proofs.Split.{split}
+use Rattle.number.proofs.Split.{split, never}
 use Rattle.note_rows.specs.NoteRows.{Lines, end, cut, line, before, linesOf, isRow, isByte, isEnd, addRow, measures, density}
 use Rattle.note_rows.specs.NoteRows.{rowDensities, linesNo, textNo}
 use Rattle.note_rows.specs.Laws.{commas, endsInLast, NoteRowLaws}
-use Rattle.note_rows.proofs.Lines.{never, row-not-byte, the-byte}
+use Rattle.note_rows.proofs.Lines.{row-not-byte, the-byte}
 use Rattle.note_rows.proofs.First.{not-ended}
 use Rattle.note_rows.proofs.Found.{adds-one}
 

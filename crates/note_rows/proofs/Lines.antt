@@ -8,12 +8,9 @@ use native.Mathlib.Omega.{arith}
 use lib.Dec.{eqb}
 use lib.ListN.{length}
 use borrow.Author.Tests.{eqb-true}
-use Rattle.number.proofs.Split.{split}
+use Rattle.number.proofs.Split.{split, never}
 use Rattle.number.proofs.Each.{none, _&_, All}
 use Rattle.note_rows.specs.NoteRows.{Lines, end, cut, line, before, linesOf, oneOf, allOf, rowBytes, isRow, isByte}
-
-pub never : {C : Type 0} → _≡_ {A = ℕ} 0 1 → C
-never h = absurd (omega (arith, h))
 
 -- the first line of a text stands before the first 0A
 pub record FirstLine (text l : List ℕ) (ls : Lines) : Type 0 where

@@ -1,6 +1,6 @@
 -- The loop of `read_measures` as lists: what is left to ask and to write once some lines are passed. Nothing here speaks of code.
 -- Assumes nothing.
-use Prim.Native.Nat.{ℕ, zero, suc, _+_, _-_, _≤_}
+use Prim.Native.Nat.{ℕ, _+_, _-_, _≤_}
 use mathlib.Core.Path.{_≡_, refl, sym, ap, _∙_}
 use mathlib.Core.Bool.{true}
 use mathlib.Core.List.{List, [], _∷_, _++_, map, append-assoc}
@@ -9,9 +9,9 @@ use native.Mathlib.Numerals.{add-one}
 use native.Mathlib.Omega.{arith}
 use lib.ListN.{length, drop, set}
 use borrow.Author.Tests.{lt-ltb}
-use Rattle.number.specs.Questions.{accepted}
 use Rattle.number.specs.Place.{Wrote}
 use Rattle.number.proofs.Split.{split}
+use Rattle.number.proofs.Questions.{refused-is}
 use Rattle.number.proofs.Place.{still, wrote, wrote-length}
 use Rattle.note_rows.specs.NoteRows.{Lines, end, cut, line, linesOf, isRow, note, isByte, isEnd, addRow, measures, density, rowDensities, linesNo, textNo}
 use Rattle.note_rows.specs.Steps.{firstRow, firstEnd, MeasuresRead, acceptedWith, refusalOf}
@@ -53,11 +53,6 @@ none-more (line l ls) =
 pub row-dens : (l : List ℕ) (ls : Lines) → isRow l ≡ true → dens (line l ls) ≡ addNotes (note l) (dens ls)
 row-dens l ls r = rw (row-not-byte 59 l r, row-not-byte 44 l r) (dens-row l (measures ls))
 
--- a refusal's number stands
-pub refused-is : {A : Type 0} (a b : A) (k : ℕ) → (k ≡ 0 → ⊥) → accepted k a b ≡ b
-refused-is a b zero ne = absurd (ne refl)
-refused-is a b (suc k) ne = refl
-
 module _ (text old : List ℕ) where
   -- the lines before `at` have passed: `measures` measures, and `rows` rows with `notes` notes of the one that is open
   pub record Passing (new : List ℕ) (at rows notes count : ℕ) : Type 0 where
@@ -90,7 +85,7 @@ module _ {text old new : List ℕ} {at rows notes count : ℕ} (g : Passing text
   refuse : {r : RowsAnswer} (n : ℕ) → linesNo rows (linesOf (drop at text)) ≡ n → (n ≡ 0 → ⊥) → r ≡ refusalOf n → MeasuresRead text old new r
   refuse n e ne k =
       let no : textNo text ≡ n = g .asked ∙ e in
-      record { answer = rw (no, refused-is (length (rowDensities text)) 0 n ne) k; kept = λ z. absurd (ne (sym no ∙ z)) }
+      record { answer = rw (no, refused-is n (length (rowDensities text)) 0 ne) k; kept = λ z. absurd (ne (sym no ∙ z)) }
 
   -- none of the three lines
   pub faulty : {r : RowsAnswer} {row n : ℕ} → row ≡ firstRow (linesOf (drop at text)) → 2 ≤ row → Fault n ≡ firstEnd (linesOf (drop at text))

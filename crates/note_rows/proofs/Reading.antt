@@ -7,16 +7,16 @@ use native.Mathlib.Nat.{zero-add}
 use native.Mathlib.Omega.{arith}
 use lib.ListN.{length, take, drop}
 use lib.Seq.{sets, take-at}
-use borrow.Author.Tests.{le-leb, lt-leb}
 use Rattle.number.specs.Questions.{filled}
 use Rattle.number.specs.Place.{Room}
 use Rattle.number.proofs.Place.{at-start}
+use Rattle.number.proofs.Questions.{refused-is}
 use Rattle.rules.specs.Chart.{densitiesNo}
+use Rattle.rules.proofs.Domain.{many-densities, no-density-place, densities-fit}
 use Rattle.note_rows.specs.NoteRows.{rowDensities, textNo, noteRowsNo}
 use Rattle.note_rows.specs.Steps.{MeasuresRead, acceptedWith, refusalOf}
 use Rattle.note_rows.specs.Promises.{ReadNoteRows}
 use Rattle.note_rows.specs.declared.RowsAnswer.{RowsAnswer}
-use Rattle.note_rows.proofs.Passing.{refused-is}
 
 refused : {text old : List ℕ} {r : RowsAnswer} (n : ℕ) → r ≡ refusalOf n → (n ≡ 0 → ⊥) → noteRowsNo text old ≡ n → ReadNoteRows text old old r
 refused zero e ne h = absurd (ne refl)
@@ -34,7 +34,7 @@ module _ {text before after : List ℕ} {k : RowsAnswer} (g : MeasuresRead text 
   pub by-lines : {old : List ℕ} {r : RowsAnswer} → r ≡ refusalOf (k .refused) → (k .refused ≡ 0 → ⊥) → ReadNoteRows text old old r
   unfolding noteRowsNo
   by-lines {old} e ne =
-      refused (k .refused) e ne (rw asked (refused-is (densitiesNo (rowDensities text) old) (k .refused) (k .refused) ne))
+      refused (k .refused) e ne (rw asked (refused-is (k .refused) (densitiesNo (rowDensities text) old) (k .refused) ne))
 
   module _ (z : k .refused ≡ 0) where
     k-is : k ≡ record { refused = 0; measures = length (rowDensities text) }
@@ -55,12 +55,11 @@ module _ {text before after : List ℕ} {k : RowsAnswer} (g : MeasuresRead text 
 
     module _ {old : List ℕ} where
       pub too-many : {r : RowsAnswer} → r ≡ refusalOf 1 → 1048576 < k .measures → ReadNoteRows text old old r
-      too-many e h = refused 1 e (λ f. omega arith) (then-chart old ∙ rw (many, lt-leb (k .measures) 1048576 h))
+      too-many e h = refused 1 e (λ f. omega arith) (then-chart old ∙ many-densities (rowDensities text) old many h)
 
       module _ (few : k .measures ≤ 1048576) where
         pub no-place : {r : RowsAnswer} → r ≡ refusalOf 12 → length old < k .measures → ReadNoteRows text old old r
-        no-place e h =
-            refused 12 e (λ f. omega arith) (then-chart old ∙ rw (many, le-leb (k .measures) 1048576 few, lt-leb (k .measures) (length old) h))
+        no-place e h = refused 12 e (λ f. omega arith) (then-chart old ∙ no-density-place (rowDensities text) old many few h)
 
         module _ (fits : k .measures ≤ length old) where
           pub has-room : k .measures ≤ length before → Room old 0 (take (k .measures) after)
@@ -68,8 +67,7 @@ module _ {text before after : List ℕ} {k : RowsAnswer} (g : MeasuresRead text 
 
           accepts : {new : List ℕ} {r : RowsAnswer} → new ≡ sets old 0 (rowDensities text) → r ≡ acceptedWith (k .measures) → ReadNoteRows text old new r
           accepts e a =
-              let yes : noteRowsNo text old ≡ 0 =
-              then-chart old ∙ rw (many, le-leb (k .measures) 1048576 few, le-leb (k .measures) (length old) fits) in
+              let yes : noteRowsNo text old ≡ 0 = then-chart old ∙ densities-fit (rowDensities text) old many few fits in
               record { answer = rw (yes, many) a; placed = rw yes (e ∙ at-first (rowDensities text) old (rw many fits)) }
 
           -- all of them were kept

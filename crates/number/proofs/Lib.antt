@@ -1,4 +1,5 @@
 pub mod Split
+pub mod Questions
 pub mod Each
 pub mod Table
 pub mod Digits

@@ -8,8 +8,8 @@ use native.Mathlib.Omega.{arith}
 use lib.Dec.{eqb}
 use lib.ListN.{length, drop, length-append}
 use borrow.Author.Tests.{eq-eqb, ne-eqb, eqb-true}
-use Rattle.number.specs.Questions.{accepted}
 use Rattle.number.proofs.Split.{split}
+use Rattle.number.proofs.Questions.{refused-is}
 use Rattle.record.specs.Record.{end, cut, fieldsOf, fieldNo, fieldsNo, densities, nameOf}
 use Rattle.record.specs.Steps.{checkedFields, refusedFields}
 use Rattle.record.specs.declared.questions.Checked.{Checked}
@@ -33,11 +33,6 @@ else-densities first t p h ne =
     later : (first : Bool) → fieldNo first 2 p ≡ 0 → first ≡ false
     later true h = absurd (omega (arith, h))
     later false h = refl
-
--- a refusal's number stands
-pub refused-is : {A : Type 0} (a b : A) (k : ℕ) → (k ≡ 0 → ⊥) → accepted k a b ≡ b
-refused-is a b zero ne = absurd (ne refl)
-refused-is a b (suc k) ne = refl
 
 module _ (bytes : List ℕ) where
   -- the fields before `at` were accepted; they have `measures` densities, and the name of `name` bytes
@@ -74,7 +69,7 @@ module _ {bytes : List ℕ} {at measures name : ℕ} (g : Checking bytes at meas
   -- at a whole field
   module _ {t s e : ℕ} (w : WholeAt bytes at t s e) {k : ℕ} (n : k ≡ fieldNo (eqb at 0) t (payload s e bytes)) where
     pub turned-down : {r : Checked} → (k ≡ 0 → ⊥) → r ≡ refusedFields k → r ≡ checkedFields bytes
-    turned-down ne f = refuse k (rw (w .fields, ← n) (refused-is (fieldsNo false (fieldsOf (drop e bytes))) k k ne)) ne f
+    turned-down ne f = refuse k (rw (w .fields, ← n) (refused-is k (fieldsNo false (fieldsOf (drop e bytes))) k ne)) ne f
 
     module _ (z : k ≡ 0) where
       later : eqb e 0 ≡ false

@@ -10,7 +10,7 @@ use lib.Dec.{leb}
 use lib.ListN.{length, take, drop, getD, length-drop, drop-of-length-le}
 use lib.Seq.{drop-drop, getD-drop, length-take-le}
 use borrow.Author.Tests.{le-leb, lt-leb, leb-true, leb-false}
-use Rattle.number.proofs.Split.{split}
+use Rattle.number.proofs.Split.{split, never}
 use Rattle.record.specs.Record.{Fields, end, cut, whole, fieldsIn, fieldsOf}
 use Rattle.record.specs.Steps.{firstAt}
 use Rattle.record.specs.declared.field.Field.the-variants.{End, Cut, Whole}
@@ -89,9 +89,6 @@ pub record WholeAt (bytes : List ℕ) (at t s e : ℕ) : Type 0 where
   pub within : e ≤ length bytes
   pub long : length (payload s e bytes) ≡ e - s
   pub fields : fieldsOf (drop at bytes) ≡ whole t (payload s e bytes) (fieldsOf (drop e bytes))
-
-pub never : {C : Type 0} → _≡_ {A = ℕ} 0 1 → C
-never h = absurd (omega (arith, h))
 
 module _ (bytes : List ℕ) (at : ℕ) where
   -- what field_at answers at the end

@@ -7,11 +7,10 @@ use mathlib.Core.List.{List, []}
 use native.Mathlib.Omega.{arith}
 use lib.Dec.{eqb}
 use lib.ListN.{length, length-map}
-use Rattle.number.proofs.Split.{split}
+use Rattle.number.proofs.Split.{split, never}
 use Rattle.rules.specs.Chart.{classOf}
 use Rattle.record.specs.Record.{Fields, end, cut, whole, fieldsOf, fieldNo, fieldsNo, densities, nameOf, recordNo}
 use Rattle.record.specs.Alike.{tags, lengths, Alike}
-use Rattle.record.proofs.Fields.{never}
 use Rattle.record.proofs.Sizes.{Sized, sized}
 
 -- only a name's bytes are asked about, and only in the first field
