@@ -35,7 +35,7 @@ not-ended text h = other (linesOf text) (not-end text h)
     other cut n = refl
     other (line l ls) n = refl
 
--- a first line of n bytes ..
+-- a first line of n bytes: where it ends, what it holds, and what follows it
 pub record LineOf (n : ℕ) (text l : List ℕ) (ls : Lines) : Type 0 where
   pub within : n < length text
   pub closed : getD text n 0 ≡ 10
@@ -55,7 +55,7 @@ line-of n text {l} {ls} e h =
       after = f .after ∙ sym (ap linesOf rest);
     }
 
--- .. and a text that has one
+-- a text whose first 0A stands behind n bytes has such a line
 pub has-line : (n : ℕ) (text : List ℕ) → n < length text → getD text n 0 ≡ 10 → All (λ b. eqb b 10) false (take n text)
     → linesOf text ≡ line (take n text) (linesOf (drop (n + 1) text))
 has-line n text h e inside =
@@ -132,17 +132,17 @@ module _ (text : List ℕ) (at : ℕ) where
     there : linesOf (drop at text) ≡ end → ⊥
     there = not-end (drop at text) (rw left (omega (arith, some)))
 
+    no-byte-line : ((l : List ℕ) (ls : Lines) → LineOf 1 (drop at text) l ls → ⊥) → Fault 14 ≡ firstEnd (linesOf (drop at text))
+    no-byte-line lost =
+        let no : (b : ℕ) (l : List ℕ) (ls : Lines) → linesOf (drop at text) ≡ line l ls → isByte b l ≡ true → ⊥ =
+        λ b l ls e t. lost l ls (line-of 1 (drop at text) e (byte-long b l t)) in
+        no-end (linesOf (drop at text)) there (λ l ls e. (no 44 l ls e, no 59 l ls e))
+
     pub one-left : length text - at < 2 → Fault 14 ≡ firstEnd (linesOf (drop at text))
-    one-left h =
-        let none : (b : ℕ) (l : List ℕ) (ls : Lines) → linesOf (drop at text) ≡ line l ls → isByte b l ≡ true → ⊥ =
-        λ b l ls e t. omega (arith, left, line-of 1 (drop at text) e (byte-long b l t) .within) in
-        no-end (linesOf (drop at text)) there (λ l ls e. (none 44 l ls e, none 59 l ls e))
+    one-left h = no-byte-line (λ l ls f. omega (arith, left, f .within))
 
     pub longer : (getD text (at + 1) 0 ≡ 10 → ⊥) → Fault 14 ≡ firstEnd (linesOf (drop at text))
-    longer h =
-        let none : (b : ℕ) (l : List ℕ) (ls : Lines) → linesOf (drop at text) ≡ line l ls → isByte b l ≡ true → ⊥ =
-        λ b l ls e t. h (sym (byte 1) ∙ line-of 1 (drop at text) e (byte-long b l t) .closed) in
-        no-end (linesOf (drop at text)) there (λ l ls e. (none 44 l ls e, none 59 l ls e))
+    longer h = no-byte-line (λ l ls f. h (sym (byte 1) ∙ f .closed))
 
     pub other-byte : (getD text at 0 ≡ 44 → ⊥) → (getD text at 0 ≡ 59 → ⊥) → Fault 14 ≡ firstEnd (linesOf (drop at text))
     other-byte c s = no-end (linesOf (drop at text)) there (λ l ls e. (λ t. c (same 44 l ls e t), λ t. s (same 59 l ls e t)))
@@ -154,19 +154,19 @@ module _ (text : List ℕ) (at : ℕ) where
 
   module _ (long : 2 ≤ length text - at) (closed : getD text (at + 1) 0 ≡ 10) where
     -- a line of one byte
-    sign : (b : ℕ) → eqb b 10 ≡ false → getD text at 0 ≡ b → linesOf (drop at text) ≡ line (b ∷ []) (linesOf (drop (at + 2) text))
-    sign b n e =
+    byte-line : (b : ℕ) → eqb b 10 ≡ false → getD text at 0 ≡ b → linesOf (drop at text) ≡ line (b ∷ []) (linesOf (drop (at + 2) text))
+    byte-line b n e =
         let t = drop at text in
         let first : getD t 0 0 ≡ b = byte 0 ∙ rw add-zero e in
         let is : take 1 t ≡ b ∷ [] = one-byte t (omega (arith, left)) ∙ rw first in
         rw (is, drop-drop 2 at text) at (has-line 1 t (omega (arith, left)) (byte 1 ∙ closed) (rw is (n & none)))
 
     pub a-comma : getD text at 0 ≡ 44 → Measure ≡ firstEnd (linesOf (drop at text))
-    a-comma e = rw (sign 44 refl e)
+    a-comma e = rw (byte-line 44 refl e)
 
     -- ";" with bytes behind it, and with none
     pub bytes-behind : getD text at 0 ≡ 59 → (length text - at ≡ 2 → ⊥) → Fault 16 ≡ firstEnd (linesOf (drop at text))
-    bytes-behind e h = rw (sign 59 refl e, not-ended (drop (at + 2) text) (omega (arith, length-drop (at + 2) text, h)))
+    bytes-behind e h = rw (byte-line 59 refl e, not-ended (drop (at + 2) text) (omega (arith, length-drop (at + 2) text, h)))
 
     pub none-behind : getD text at 0 ≡ 59 → length text - at ≡ 2 → Last ≡ firstEnd (linesOf (drop at text))
-    none-behind e h = rw (sign 59 refl e, drop-of-length-le text {i = at + 2} (omega arith))
+    none-behind e h = rw (byte-line 59 refl e, drop-of-length-le text {i = at + 2} (omega arith))

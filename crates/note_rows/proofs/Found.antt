@@ -59,11 +59,11 @@ byteOf Measure = 44
 byteOf Last = 59
 byteOf (Fault n) = 0
 
-sign-in : (text : List ℕ) (at : ℕ) (k : Ending) (ls : Lines) → linesOf (drop at text) ≡ ls → k ≡ firstEnd ls → (byteOf k ≡ 0 → ⊥)
+byte-in : (text : List ℕ) (at : ℕ) (k : Ending) (ls : Lines) → linesOf (drop at text) ≡ ls → k ≡ firstEnd ls → (byteOf k ≡ 0 → ⊥)
     → LineAt 1 text at (byteOf k ∷ [])
-sign-in text at k end e a n = absurd (n (ap byteOf a))
-sign-in text at k cut e a n = absurd (n (ap byteOf a))
-sign-in text at k (line l ls) e a n =
+byte-in text at k end e a n = absurd (n (ap byteOf a))
+byte-in text at k cut e a n = absurd (n (ap byteOf a))
+byte-in text at k (line l ls) e a n =
     split (isByte 44 l)
     (λ t. rw (rw t at a) (line-at 1 text at (rw (the-byte 44 l t) at e) refl))
     (λ t. split (isByte 59 l)
@@ -73,8 +73,8 @@ sign-in text at k (line l ls) e a n =
     (λ u. absurd (n (ap byteOf (rw (t, u) at a)))))
 
 -- such a line there
-pub sign-found : (text : List ℕ) (at : ℕ) (k : Ending) → k ≡ firstEnd (linesOf (drop at text)) → (byteOf k ≡ 0 → ⊥) → LineAt 1 text at (byteOf k ∷ [])
-sign-found text at k a n = sign-in text at k (linesOf (drop at text)) refl a n
+pub byte-found : (text : List ℕ) (at : ℕ) (k : Ending) → k ≡ firstEnd (linesOf (drop at text)) → (byteOf k ≡ 0 → ⊥) → LineAt 1 text at (byteOf k ∷ [])
+byte-found text at k a n = byte-in text at k (linesOf (drop at text)) refl a n
 
 -- nothing stands behind ";"
 ends : (ls : Lines) → Last ≡ firstEnd (line (59 ∷ []) ls) → isEnd ls ≡ true

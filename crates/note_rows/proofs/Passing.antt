@@ -54,13 +54,13 @@ pub row-dens : (l : List ℕ) (ls : Lines) → isRow l ≡ true → dens (line l
 row-dens l ls r = rw (row-not-byte 59 l r, row-not-byte 44 l r) (dens-row l (measures ls))
 
 module _ (text old : List ℕ) where
-  -- the lines before `at` have passed: `measures` measures, and `rows` rows with `notes` notes of the one that is open
+  -- the lines before `at` have passed: `count` measures, and `rows` rows of the one that is open, which has `notes` so far
   pub record Passing (new : List ℕ) (at rows notes count : ℕ) : Type 0 where
     pub passed : List ℕ
     pub within : at ≤ length text
     pub most : rows ≤ 192
     pub few : notes ≤ rows
-    pub slow : count ≤ at
+    pub fewer : count ≤ at
     pub asked : textNo text ≡ linesNo rows (linesOf (drop at text))
     pub all : rowDensities text ≡ passed ++ addNotes notes (dens (linesOf (drop at text)))
     pub long : length new ≡ length old
@@ -74,7 +74,7 @@ module _ (text old : List ℕ) where
         within = omega arith;
         most = omega arith;
         few = omega arith;
-        slow = omega arith;
+        fewer = omega arith;
         asked = refl;
         all = sym (none-more (linesOf text));
         long = refl;
@@ -106,7 +106,7 @@ module _ {text old new : List ℕ} {at rows notes count : ℕ} (g : Passing text
           within = f .there .within;
           most = omega (arith, g .most, h);
           few = omega (arith, g .few, adds-one (f .l), f .adds);
-          slow = omega (arith, g .slow);
+          fewer = omega (arith, g .fewer);
           asked = g .asked ∙ rw (f .there .lines, f .is-row, room, add-one rows);
           all = g .all ∙ rw (f .there .lines, row-dens (f .l) more (f .is-row), add-twice notes (note (f .l)) (dens more), f .adds);
           long = g .long;
@@ -130,24 +130,23 @@ module _ {text old new : List ℕ} {at rows notes count : ℕ} (g : Passing text
         within = f .within;
         most = omega arith;
         few = omega arith;
-        slow = omega (arith, g .slow);
+        fewer = omega (arith, g .fewer);
         asked = g .asked ∙ rw (f .lines);
         all = g .all ∙ rw (f .lines, add-zero notes, none-more more) (sym (append-assoc (g .passed) (notes ∷ []) (dens more)));
         long = kept-long;
         written = one-more;
       }
 
-  -- ";"
-  module _ (f : LineAt 1 text at (59 ∷ [])) where
-    module _ (h : isEnd (linesOf (drop (at + 2) text)) ≡ true) where
-      none : textNo text ≡ 0
-      unfolding isRow
-      none = g .asked ∙ rw (f .lines, h)
+  -- ";" with nothing behind it
+  module _ (f : LineAt 1 text at (59 ∷ [])) (h : isEnd (linesOf (drop (at + 2) text)) ≡ true) where
+    none : textNo text ≡ 0
+    unfolding isRow
+    none = g .asked ∙ rw (f .lines, h)
 
-      whole : rowDensities text ≡ g .passed ++ notes ∷ []
-      whole = g .all ∙ rw (f .lines, add-zero notes)
+    whole : rowDensities text ≡ g .passed ++ notes ∷ []
+    whole = g .all ∙ rw (f .lines, add-zero notes)
 
-      pub done : {r : RowsAnswer} → r ≡ acceptedWith (count + 1) → MeasuresRead text old (set new count notes) r
-      done k =
-          let many : length (rowDensities text) ≡ count + 1 = ap length whole ∙ sym (one-more .next ∙ zero-add _) in
-          record { answer = rw (none, many) k; kept = λ z. one-more .bytes ∙ sym (rw whole) }
+    pub done : {r : RowsAnswer} → r ≡ acceptedWith (count + 1) → MeasuresRead text old (set new count notes) r
+    done k =
+        let many : length (rowDensities text) ≡ count + 1 = ap length whole ∙ sym (one-more .next ∙ zero-add _) in
+        record { answer = rw (none, many) k; kept = λ z. one-more .bytes ∙ sym (rw whole) }

@@ -1,9 +1,20 @@
 -- `note_rows::line::row_of` meets its contract.
 -- Assumes nothing.
+use mathlib.Core.Path.{_≡_}
+use mathlib.Core.Bool.{true}
+use mathlib.Core.List.{[], _∷_}
 use borrow.Author.Needs.{needs}
+use Rattle.note_rows.specs.NoteRows.{isRow}
 use Rattle.note_rows.proofs.Bytes.{a-row, no-row, without-note, with-note}
 use Rattle.note_rows.proofs.line.row_of.Statement.{statement}
 use Rattle.note_rows.proofs.line.row_of.Tie as tie
+
+-- the four bytes are a row
+row : (c : tie.Else1) → let a = c .before .before .before .before .before .args in isRow (a .a ∷ a .b ∷ a .c ∷ a .d ∷ []) ≡ true
+row c =
+    let h = c .before in
+    a-row _ _ _ _ (h .before .before .before .row-byte .ensures) (h .before .before .row-byte2 .ensures)
+    (h .before .row-byte3 .ensures) (h .row-byte4 .ensures) (c .if1 .left)
 
 row-byte-requires : tie.Need-row-byte-requires
 row-byte-requires c κs = search needs
@@ -56,21 +67,13 @@ add-if2-3 c = search needs
 returns-2 : tie.Need-returns-2
 returns-2 c =
     let q = c .before in
-    let t = q .before .before .before .before in
-    let h = t .before in
-    let row = a-row _ _ _ _ (h .before .before .before .row-byte .ensures) (h .before .before .row-byte2 .ensures)
-    (h .before .row-byte3 .ensures) (h .row-byte4 .ensures) (t .if1 .left) in
-    without-note _ _ _ _ row (q .before .before .before .quiet-byte .ensures) (q .before .before .quiet-byte2 .ensures)
+    without-note _ _ _ _ (row (q .before .before .before .before)) (q .before .before .before .quiet-byte .ensures) (q .before .before .quiet-byte2 .ensures)
     (q .before .quiet-byte3 .ensures) (q .quiet-byte4 .ensures) (c .if2 .taken)
 
 returns-3 : tie.Need-returns-3
 returns-3 c =
     let q = c .before in
-    let t = q .before .before .before .before in
-    let h = t .before in
-    let row = a-row _ _ _ _ (h .before .before .before .row-byte .ensures) (h .before .before .row-byte2 .ensures)
-    (h .before .row-byte3 .ensures) (h .row-byte4 .ensures) (t .if1 .left) in
-    with-note _ _ _ _ row (q .before .before .before .quiet-byte .ensures) (q .before .before .quiet-byte2 .ensures)
+    with-note _ _ _ _ (row (q .before .before .before .before)) (q .before .before .before .quiet-byte .ensures) (q .before .before .quiet-byte2 .ensures)
     (q .before .quiet-byte3 .ensures) (q .quiet-byte4 .ensures) (c .if2 .left)
 
 pub row-of-spec : {M : Type 1} → statement M

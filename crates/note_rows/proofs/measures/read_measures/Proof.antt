@@ -7,7 +7,7 @@ use native.Mathlib.Omega.{arith}
 use lib.ListN.{length}
 use borrow.Author.Needs.{needs}
 use Rattle.note_rows.specs.declared.line.Ending.the-variants.{Measure, Last}
-use Rattle.note_rows.proofs.Found.{LineAt, RowAt, row-found, sign-found, last-ends}
+use Rattle.note_rows.proofs.Found.{LineAt, RowAt, row-found, byte-found, last-ends}
 use Rattle.note_rows.proofs.Passing.{Passing, starts, too-many, next-row, kept-long, next-measure, done, faulty}
 use Rattle.note_rows.proofs.measures.read_measures.Statement.{statement}
 use Rattle.note_rows.proofs.measures.read_measures.Tie as tie
@@ -27,11 +27,11 @@ row c = row-found _ _ _ (c .before .row-at .ensures) (c .if1 .taken)
 -- the line "," or ";" that was found
 comma : (c : tie.After-enum-told Inv-loop μ-loop)
     → let l = c .before .before .before .before in LineAt 1 (l .before .before .before .before .args .text .now) (l .before .loop .at) (44 ∷ [])
-comma c = sign-found _ _ Measure (sym (c .enum-told .given .1) ∙ c .before .before .end-at .ensures) (λ z. omega (arith, z))
+comma c = byte-found _ _ Measure (sym (c .enum-told .given .1) ∙ c .before .before .end-at .ensures) (λ z. omega (arith, z))
 
 semicolon : (c : tie.After-enum-told2 Inv-loop μ-loop)
     → let l = c .before .before .before .before in LineAt 1 (l .before .before .before .before .args .text .now) (l .before .loop .at) (59 ∷ [])
-semicolon c = sign-found _ _ Last (sym (c .enum-told2 .given .1) ∙ c .before .before .end-at .ensures) (λ z. omega (arith, z))
+semicolon c = byte-found _ _ Last (sym (c .enum-told2 .given .1) ∙ c .before .before .end-at .ensures) (λ z. omega (arith, z))
 
 loop-holds : tie.Need-loop-holds Inv-loop μ-loop
 loop-holds c = starts (c .before .before .args .text .now) (c .before .before .args .densities .now)
@@ -77,7 +77,7 @@ keep-requires c κs = search needs
 add-measures : tie.Need-add-measures Inv-loop μ-loop
 add-measures c =
     let m = c .before .before .before .before in
-    omega (arith, comma m .within, m .before .before .before .before .before .loop .inv .slow)
+    omega (arith, comma m .within, m .before .before .before .before .before .loop .inv .fewer)
 
 add-at-2 : tie.Need-add-at-2 Inv-loop μ-loop
 add-at-2 c = omega (arith, comma (c .before .before .before .before) .within)
@@ -99,7 +99,7 @@ keep-requires-2 c κs = search needs
 add-accepted : tie.Need-add-accepted Inv-loop μ-loop
 add-accepted c =
     let m = c .before .before .before .before in
-    omega (arith, semicolon m .within, m .before .before .before .before .before .loop .inv .slow)
+    omega (arith, semicolon m .within, m .before .before .before .before .before .loop .inv .fewer)
 
 accepted-requires : tie.Need-accepted-requires Inv-loop μ-loop
 accepted-requires c κs = search needs
