@@ -2,7 +2,7 @@
 """Makes the input and the expected output of the program row_cases, from request A.1 alone.
 
 Run in the repository's root: python3 tools/row_cases.py
-It writes crates/row_cases/stdin (each text behind the number of places lent, in two bytes, and its length, in three) and
+It writes crates/row_cases/stdin (each case, the number of places lent in two bytes and the text, behind its length in three) and
 crates/row_cases/stdout (a line for each: the refusal's number, the number of measures, every place lent).
 """
 from itertools import product
@@ -120,7 +120,8 @@ CASES += lent(300, *[measures(300) + fault for fault in (lines(b"000", b";"), b"
 def main():
     with open("crates/row_cases/stdin", "wb") as out:
         for places, text in CASES:
-            out.write(places.to_bytes(2, "big") + len(text).to_bytes(3, "big") + text)
+            case = places.to_bytes(2, "big") + text
+            out.write(len(case).to_bytes(3, "big") + case)
     with open("crates/row_cases/stdout", "wb") as out:
         for places, text in CASES:
             out.write(answer(places, text))

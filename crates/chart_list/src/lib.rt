@@ -1,3 +1,4 @@
-// For the programs that replay the judge's answers: chart lists are read, lines of answers are put together.
+// For the programs that run the calls over lists: charts and cases are read, lines of answers are put together.
+pub mod cases;
 pub mod line;
 pub mod read;

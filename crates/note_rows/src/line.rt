@@ -37,8 +37,8 @@ fn quiet_byte(b: u8) -> u32
     }
 }
 
-// What four bytes add to their measure, 2 if they are no row. Each sum is compiled to a few operations on all four bytes; with `&&`, or
-// with `if` in place of `match` above, each byte is a branch, and which notes a row holds no processor predicts.
+// What four bytes add to their measure, 2 if they are no row. Each sum is compiled to a few operations on all four bytes; `&&` in its
+// place, or `if` in place of `match` above, is compiled to branches, and which notes a row holds no processor predicts.
 fn row_of(a: u8, b: u8, c: u8, d: u8) -> u32
     ensures { λ r. ⌜ r ≡ rowOf (a ∷ b ∷ c ∷ d ∷ []) ⌝ }
 {

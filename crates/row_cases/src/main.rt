@@ -1,5 +1,7 @@
-// Prints, for each text of a list, what `read_note_rows` answers and what all places lent to it then hold; each held 7 before. A text stands
-// behind the number of places, in two bytes, and its length, in three, high byte first.
+// Prints, for each text of a list, what `read_note_rows` answers and what all places lent to it then hold; each held 7 before. A case is the
+// number of places in two bytes, high byte first, and the text; it stands behind its length in three bytes.
+use chart_list::cases::case_at;
+use chart_list::cases::number_of;
 use chart_list::line::put_bytes;
 use chart_list::line::put_number;
 use libc::STDIN_FILENO;
@@ -51,24 +53,23 @@ fn print_one(text: &[u8], places: usize) {
     lend(text, places, &mut densities);
 }
 
-fn number_of(high: u8, middle: u8, low: u8) -> usize {
-    65536 * (high as usize) + 256 * (middle as usize) + (low as usize)
+fn print_case(case: &[u8]) {
+    if case.len() < 2 {
+        return;
+    }
+    print_one(&case[2..], number_of(0, case[0], case[1]));
 }
 
 fn print_all(list: &[u8]) {
     let mut at = 0;
     while at < list.len() {
-        if list.len() - at < 5 {
+        let case = case_at(list, at);
+        if !case.whole {
             return;
         }
-        let start = at + 5;
-        let places = number_of(0, list[at], list[at + 1]);
-        let length = number_of(list[at + 2], list[at + 3], list[at + 4]);
-        if list.len() - start < length {
-            return;
-        }
-        let end = start + length;
-        print_one(&list[start..end], places);
+        let start = case.start;
+        let end = case.end;
+        print_case(&list[start..end]);
         at = end;
     }
 }

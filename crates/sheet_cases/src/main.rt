@@ -1,4 +1,5 @@
 // Prints what `sheet` prints for each record of a list. A record stands behind its length in three bytes, high byte first.
+use chart_list::cases::case_at;
 use libc::STDIN_FILENO;
 use libc::STDOUT_FILENO;
 use sheet_lines::print_sheet;
@@ -10,22 +11,15 @@ fn print_one(record: &[u8]) {
     io::write_all(STDOUT_FILENO, &bytes[..length]);
 }
 
-fn length_of(high: u8, middle: u8, low: u8) -> usize {
-    65536 * (high as usize) + 256 * (middle as usize) + (low as usize)
-}
-
 fn print_all(list: &[u8]) {
     let mut at = 0;
     while at < list.len() {
-        if list.len() - at < 3 {
+        let case = case_at(list, at);
+        if !case.whole {
             return;
         }
-        let start = at + 3;
-        let length = length_of(list[at], list[at + 1], list[at + 2]);
-        if list.len() - start < length {
-            return;
-        }
-        let end = start + length;
+        let start = case.start;
+        let end = case.end;
         print_one(&list[start..end]);
         at = end;
     }

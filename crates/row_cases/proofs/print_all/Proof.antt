@@ -15,68 +15,23 @@ abbrev μ-loop : tie.MeasureT-loop
 loop-holds : tie.Need-loop-holds Inv-loop μ-loop
 loop-holds c = search needs
 
-sub-if1 : tie.Need-sub-if1 Inv-loop μ-loop
-sub-if1 c = search needs
+case-at-requires : tie.Need-case-at-requires Inv-loop μ-loop
+case-at-requires c κs = search needs
 
 returns : tie.Need-returns Inv-loop μ-loop
 returns c = search needs
 
-add-start : tie.Need-add-start Inv-loop μ-loop
-add-start c = search needs
+sub-print-case : tie.Need-sub-print-case Inv-loop μ-loop
+sub-print-case c = search needs
 
-shared-slice-read-number-of : tie.Need-shared-slice-read-number-of Inv-loop μ-loop
-shared-slice-read-number-of c = search needs
+part-print-case-start : tie.Need-part-print-case-start Inv-loop μ-loop
+part-print-case-start c = search needs
 
-add-number-of : tie.Need-add-number-of Inv-loop μ-loop
-add-number-of c = search needs
+part-print-case-end : tie.Need-part-print-case-end Inv-loop μ-loop
+part-print-case-end c = search needs
 
-shared-slice-read-number-of-2 : tie.Need-shared-slice-read-number-of-2 Inv-loop μ-loop
-shared-slice-read-number-of-2 c = search needs
-
-number-of-requires : tie.Need-number-of-requires Inv-loop μ-loop
-number-of-requires c κs = search needs
-
-add-number-of-2 : tie.Need-add-number-of-2 Inv-loop μ-loop
-add-number-of-2 c = search needs
-
-shared-slice-read-number-of-3 : tie.Need-shared-slice-read-number-of-3 Inv-loop μ-loop
-shared-slice-read-number-of-3 c = search needs
-
-add-number-of-3 : tie.Need-add-number-of-3 Inv-loop μ-loop
-add-number-of-3 c = search needs
-
-shared-slice-read-number-of-4 : tie.Need-shared-slice-read-number-of-4 Inv-loop μ-loop
-shared-slice-read-number-of-4 c = search needs
-
-add-number-of-4 : tie.Need-add-number-of-4 Inv-loop μ-loop
-add-number-of-4 c = search needs
-
-shared-slice-read-number-of-5 : tie.Need-shared-slice-read-number-of-5 Inv-loop μ-loop
-shared-slice-read-number-of-5 c = search needs
-
-number-of-requires-2 : tie.Need-number-of-requires-2 Inv-loop μ-loop
-number-of-requires-2 c κs = search needs
-
-sub-if2 : tie.Need-sub-if2 Inv-loop μ-loop
-sub-if2 c = search needs
-
-returns-2 : tie.Need-returns-2 Inv-loop μ-loop
-returns-2 c = search needs
-
-add-end : tie.Need-add-end Inv-loop μ-loop
-add-end c = search needs
-
-sub-print-one : tie.Need-sub-print-one Inv-loop μ-loop
-sub-print-one c = search needs
-
-part-print-one-start : tie.Need-part-print-one-start Inv-loop μ-loop
-part-print-one-start c = search needs
-
-part-print-one-end : tie.Need-part-print-one-end Inv-loop μ-loop
-part-print-one-end c = search needs
-
-print-one-requires : tie.Need-print-one-requires Inv-loop μ-loop
-print-one-requires c κs = search needs
+print-case-requires : tie.Need-print-case-requires Inv-loop μ-loop
+print-case-requires c κs = search needs
 
 loop-less : tie.Need-loop-less Inv-loop μ-loop
 loop-less c = search needs
@@ -84,8 +39,8 @@ loop-less c = search needs
 loop-again : tie.Need-loop-again Inv-loop μ-loop
 loop-again c = search needs
 
-returns-3 : tie.Need-returns-3 Inv-loop μ-loop
-returns-3 c = search needs
+returns-2 : tie.Need-returns-2 Inv-loop μ-loop
+returns-2 c = search needs
 
 pub print-all-spec : {M : Type 1} → statement M
 print-all-spec =
@@ -94,27 +49,12 @@ print-all-spec =
     Inv-loop
     μ-loop
     loop-holds
-    sub-if1
+    case-at-requires
     returns
-    add-start
-    shared-slice-read-number-of
-    add-number-of
-    shared-slice-read-number-of-2
-    number-of-requires
-    add-number-of-2
-    shared-slice-read-number-of-3
-    add-number-of-3
-    shared-slice-read-number-of-4
-    add-number-of-4
-    shared-slice-read-number-of-5
-    number-of-requires-2
-    sub-if2
-    returns-2
-    add-end
-    sub-print-one
-    part-print-one-start
-    part-print-one-end
-    print-one-requires
+    sub-print-case
+    part-print-case-start
+    part-print-case-end
+    print-case-requires
     loop-less
     loop-again
-    returns-3)
+    returns-2)

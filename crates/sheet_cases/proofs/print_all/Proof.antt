@@ -15,41 +15,11 @@ abbrev μ-loop : tie.MeasureT-loop
 loop-holds : tie.Need-loop-holds Inv-loop μ-loop
 loop-holds c = search needs
 
-sub-if1 : tie.Need-sub-if1 Inv-loop μ-loop
-sub-if1 c = search needs
+case-at-requires : tie.Need-case-at-requires Inv-loop μ-loop
+case-at-requires c κs = search needs
 
 returns : tie.Need-returns Inv-loop μ-loop
 returns c = search needs
-
-add-start : tie.Need-add-start Inv-loop μ-loop
-add-start c = search needs
-
-shared-slice-read-length-of : tie.Need-shared-slice-read-length-of Inv-loop μ-loop
-shared-slice-read-length-of c = search needs
-
-add-length-of : tie.Need-add-length-of Inv-loop μ-loop
-add-length-of c = search needs
-
-shared-slice-read-length-of-2 : tie.Need-shared-slice-read-length-of-2 Inv-loop μ-loop
-shared-slice-read-length-of-2 c = search needs
-
-add-length-of-2 : tie.Need-add-length-of-2 Inv-loop μ-loop
-add-length-of-2 c = search needs
-
-shared-slice-read-length-of-3 : tie.Need-shared-slice-read-length-of-3 Inv-loop μ-loop
-shared-slice-read-length-of-3 c = search needs
-
-length-of-requires : tie.Need-length-of-requires Inv-loop μ-loop
-length-of-requires c κs = search needs
-
-sub-if2 : tie.Need-sub-if2 Inv-loop μ-loop
-sub-if2 c = search needs
-
-returns-2 : tie.Need-returns-2 Inv-loop μ-loop
-returns-2 c = search needs
-
-add-end : tie.Need-add-end Inv-loop μ-loop
-add-end c = search needs
 
 sub-print-one : tie.Need-sub-print-one Inv-loop μ-loop
 sub-print-one c = search needs
@@ -69,8 +39,8 @@ loop-less c = search needs
 loop-again : tie.Need-loop-again Inv-loop μ-loop
 loop-again c = search needs
 
-returns-3 : tie.Need-returns-3 Inv-loop μ-loop
-returns-3 c = search needs
+returns-2 : tie.Need-returns-2 Inv-loop μ-loop
+returns-2 c = search needs
 
 pub print-all-spec : {M : Type 1} → statement M
 print-all-spec =
@@ -79,22 +49,12 @@ print-all-spec =
     Inv-loop
     μ-loop
     loop-holds
-    sub-if1
+    case-at-requires
     returns
-    add-start
-    shared-slice-read-length-of
-    add-length-of
-    shared-slice-read-length-of-2
-    add-length-of-2
-    shared-slice-read-length-of-3
-    length-of-requires
-    sub-if2
-    returns-2
-    add-end
     sub-print-one
     part-print-one-start
     part-print-one-end
     print-one-requires
     loop-less
     loop-again
-    returns-3)
+    returns-2)
