@@ -31,7 +31,7 @@ enum {
     PV_NO_STREAM_CLASS = 5,     /* A stream class for a run symbol? */
     PV_NO_LEVEL_FITS = 6,       /* Does some level fit the label's width? */
     PV_NO_STREAM_MEASURE = 7,   /* A stream measure, for share? */
-    PV_FIELD_CUT_SHORT = 8,     /* Three head bytes and the whole payload present? */
+    PV_FIELD_CUT_SHORT = 8,     /* Three head bytes present? */
     PV_UNKNOWN_TAG = 9,         /* Tag 01 or 02? */
     PV_NAME_NOT_FIRST = 10,     /* A name as first field and nowhere else? */
     PV_BAD_NAME = 11,           /* Name of 1 to 64 bytes from 20 to 7E? */
@@ -39,6 +39,7 @@ enum {
     PV_BAD_LINE = 14,           /* A row, "," or ";", each ended by 0A? */
     PV_TOO_MANY_ROWS = 15,      /* At most 192 rows in the measure? */
     PV_BAD_END = 16,            /* The line ";", and nothing after it? */
+    PV_PAYLOAD_CUT = 17,        /* The whole payload present? Asked straight after 8 for the same field. */
     PV_NO_SUCH_NUMBER = 100     /* Does the number stand for a mode, or a level? Asked first. */
 };
 
@@ -213,7 +214,7 @@ pv_label_written pv_label(const uint32_t *m, size_t m_length, uint8_t *out, size
 pv_pair_part pv_label_pair(
     const uint8_t *first, size_t first_length, const uint8_t *second, size_t second_length, size_t width);
 
-/* A chart record: its densities, and where its name stands. Questions 8, 9, 10, 11 field by field, then 1, 12. */
+/* A chart record: its densities, and where its name stands. Questions 8, 17, 9, 10, 11 field by field, then 1, 12. */
 pv_record_answer pv_read_chart_record(
     const uint8_t *bytes, size_t bytes_length, uint32_t *densities, size_t densities_length);
 

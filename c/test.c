@@ -481,7 +481,7 @@ static void test_record(void)
     check_record(bytes, sizeof bytes, 9, PV_ACCEPTED);
     load(&charts[CHARTS - 1]);
     expect(memcmp(lengths, m, 9 * sizeof m[0]) == 0, "a record's densities");
-    check_record(bytes, sizeof bytes - 1, 9, PV_FIELD_CUT_SHORT);
+    check_record(bytes, sizeof bytes - 1, 9, PV_PAYLOAD_CUT);
     check_record(bytes, 0, 9, PV_NAME_NOT_FIRST);
     memcpy(changed, bytes, sizeof bytes);
     changed[4] = 3;
@@ -489,6 +489,21 @@ static void test_record(void)
     changed[4] = 2;
     changed[3] = 0x1F;
     check_record(changed, sizeof bytes, 9, PV_BAD_NAME);
+}
+
+/* A field of two bytes, first or behind the name, cut behind each of its bytes: whatever its tag, 8 and 17 are asked before 9. */
+static void test_cut_record(void)
+{
+    static const uint8_t tags[] = {0, 1, 2, 3, 255};
+    chart_name = "cut, as a record";
+    for (size_t i = 0; i < sizeof tags; i++)
+        for (size_t at = 0; at <= 4; at += 4) {
+            uint8_t bytes[] = {1, 0, 1, 'A', 0, 0, 0, 0};
+            const uint8_t cut[] = {tags[i], 0, 2, 'B'};
+            memcpy(bytes + at, cut, sizeof cut);
+            for (size_t size = 1; size <= sizeof cut; size++)
+                check_record(bytes, at + size, 9, size < 3 ? PV_FIELD_CUT_SHORT : PV_PAYLOAD_CUT);
+        }
 }
 
 /* ---- note rows */
@@ -607,7 +622,8 @@ static void test_sheet(void)
     chart_name = "a record";
     check_sheet(bytes, sizeof bytes,
         "A\n3 2 0 0 3 4\n2 ~2~ (3) 1\n2 ~2~ - 1\n2 ~5~* 1\n2-2 (3) 1\n2-2-1\n5*-1\n5 Total\n");
-    check_sheet(bytes, 3, "refused 8\n");
+    check_sheet(bytes, 2, "refused 8\n");
+    check_sheet(bytes, 3, "refused 17\n");
     check_sheet(bytes, 0, "refused 10\n");
     check_sheet(long_input, sizeof long_input, "refused 13\n");
 }
@@ -658,6 +674,7 @@ int main(void)
     test_numbers_that_stand_for_none();
     test_label_pair();
     test_record();
+    test_cut_record();
     test_rows();
     test_full_measures();
     test_long_rows(4096);

@@ -1,5 +1,5 @@
 #!/bin/sh
-# Builds the static library and the crate, runs its tests, and compares it with the original, its reader of note rows with a plain one.
+# Builds the static library and the crate, runs its tests, and compares it with the original, its readers of chart records and note rows with plain ones.
 # rust/run.sh [--quick] [SEED]: words are handed to the comparison.
 set -e
 cd "$(dirname "$0")"

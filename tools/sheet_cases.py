@@ -1,5 +1,5 @@
 #!/usr/bin/env python3
-"""Makes the input and the expected output of the program sheet_cases, from document 01 alone.
+"""Makes the input and the expected output of the program sheet_cases, from documents 01 and 02 alone.
 
 Run in the repository's root: python3 tools/sheet_cases.py
 It writes crates/sheet_cases/stdin (each record behind its length in three bytes) and crates/sheet_cases/stdout.
@@ -23,7 +23,7 @@ def read(record):
         tag, size = record[at], 256 * record[at + 1] + record[at + 2]
         payload = record[at + 3:at + 3 + size]
         if len(payload) < size:
-            return 8, name, densities
+            return 17, name, densities
         if tag not in (1, 2):
             return 9, name, densities
         if (tag == 1) != first:
@@ -66,6 +66,12 @@ def chart(densities, name=b"A"):
     return field(1, name) + field(2, densities)
 
 
+def cuts(tag):
+    """A field of two bytes, cut behind each of its bytes: in the head, then in the payload."""
+    whole = field(tag, b"AB")
+    return [whole[:size] for size in range(1, len(whole))]
+
+
 def six_length(densities):
     return sum(map(len, texts([class_of(d) for d in densities])[:6]))
 
@@ -85,11 +91,8 @@ CASE_12 = bytes.fromhex("10 10 00 14 14 00 00 00 10")
 
 RECORDS = [
     b"",                                                  # no field at all
-    b"\x01", b"\x01\x00",                                 # a cut head
-    chart(CASE_12) + b"\x02", chart(CASE_12) + b"\x02\x00",
-    b"\x01\x00\x02A", chart(CASE_12)[:-1],                # a cut payload
-    field(3, b"A"), field(1, b"A") + field(0, b""),       # an unknown tag, whole
-    field(3, b"AB")[:-1], field(1, b"A") + b"\xff\x00",   # and cut
+    chart(CASE_12)[:-1],                                  # a cut payload
+    field(3, b"A"), field(1, b"A") + field(0, b""),       # an unknown tag
     field(1, b"A") + chart(CASE_12),                      # two names
     field(2, CASE_12) + field(1, b"A"),                   # a name second
     chart(CASE_12, b""), chart(CASE_12, b"n" * 64), chart(CASE_12, b"n" * 65),
@@ -100,6 +103,19 @@ RECORDS = [
     chart(bytes([0, 16, 0, 0, 32, 255])),
     chart(bytes([16] * (16384 - 7))), chart(bytes([16] * (16385 - 7))),  # 16,384 and 16,385 bytes
     chart(long_chart(65536)), chart(long_chart(65537)),
+]
+
+# Both cuts, of the first field and of a later one, for each known tag and for unknown ones.
+FIRST_OR_LATER = [b"", field(1, b"A"), chart(CASE_12)]
+RECORDS += [before + cut for before in FIRST_OR_LATER for tag in (0, 1, 2, 3, 255) for cut in cuts(tag)]
+RECORDS += [
+    field(1, b"A") + field(2, bytes(256))[:-1], field(1, b"A") + field(2, bytes(256)),  # the length's high byte
+    field(1, b"A") + b"\x02\xff\xff", b"\xff\xff\xff",
+    field(1, b"n" * 65)[:-1],                             # 17 before 11
+    field(3, b"A") + b"\x02", field(3, b"A") + b"\x02\x00\x01",  # an earlier field's 9, 10, 11 before a later one's 8, 17
+    field(2, b"A") + b"\x02", field(1, b"A") + field(1, b"A") + b"\x02\x00\x01",
+    field(1, b"\x1f") + b"\x02", field(1, b"\x1f") + b"\x02\x00\x01",
+    chart(bytes([16] * (16386 - 7)))[:-1],                # 16,385 bytes: 13 before 17
 ]
 
 

@@ -180,7 +180,7 @@ pub fn label_pair<'a>(first: &'a [u8], second: &'a [u8], width: usize) -> &'a [u
     text.get(..r.length).unwrap_or_default()
 }
 
-/// The densities of a chart record. Questions 8 to 11 field by field, then 1, 12.
+/// The densities of a chart record. Questions 8, 17, 9, 10, 11 field by field, then 1, 12.
 pub fn read_chart_record(record: &[u8], densities: &mut [u32]) -> Result<ChartRecord, Refused> {
     let r = ffi::read_chart_record(record, densities);
     let read = ChartRecord {

@@ -175,7 +175,8 @@ fn record_view_and_label_of_case_12() {
     assert_eq!(lent::read_chart_record(&record, &mut m), Ok(read));
     assert_eq!(m, [16, 16, 0, 20, 20, 0, 0, 0, 16, 7]);
     assert!(print_sheet(&record).starts_with(b"A\n3 2 0 0 3 4\n2 ~2~ (3) 1\n"));
-    assert_eq!(print_sheet(&record[..3]), b"refused 8\n");
+    assert_eq!(print_sheet(&record[..2]), b"refused 8\n");
+    assert_eq!(print_sheet(&record[..3]), b"refused 17\n");
     let m = &m[..9];
     assert_eq!(lent::active_range(m), m);
     assert_eq!(lent::stream_tokens(m).unwrap().count(), 5);
@@ -186,6 +187,28 @@ fn record_view_and_label_of_case_12() {
     );
     assert_eq!(&out[..5], b"2-2-1");
     assert_eq!(lent::label_pair(b"first", b"two", 4), b"two");
+}
+
+#[test]
+fn cut_records() {
+    for tag in [1, 2, 3] {
+        for before in [&[][..], &[1, 0, 1, 0x41]] {
+            let cut = [before, &[tag, 0, 2, 0x42]].concat();
+            for (size, number) in [(1, 8), (2, 8), (3, 17), (4, 17)] {
+                let record = &cut[..before.len() + size];
+                let mut densities = [7; 5];
+                let refused = lent::read_chart_record(record, &mut densities);
+                assert_eq!((refused, densities), (Err(Refused(number)), [7; 5]));
+                let printed = format!("refused {number}\n");
+                assert_eq!(print_sheet(record), printed.as_bytes());
+            }
+        }
+    }
+    let words = [
+        "refused 8: three head bytes present?",
+        "refused 17: the whole payload present?",
+    ];
+    assert_eq!([8, 17].map(|n| Refused(n).to_string()), words);
 }
 
 #[test]

@@ -144,7 +144,7 @@ impl fmt::Display for Refused {
             5 => "a stream class for a run symbol?",
             6 => "does some level fit the label's width?",
             7 => "a stream measure, for share?",
-            8 => "three head bytes and the whole payload present?",
+            8 => "three head bytes present?",
             9 => "tag 01 or 02?",
             10 => "a name as first field and nowhere else?",
             11 => "name of 1 to 64 bytes from 20 to 7E?",
@@ -152,6 +152,7 @@ impl fmt::Display for Refused {
             14 => "a row, \",\" or \";\", each ended by 0A?",
             15 => "at most 192 rows in a measure?",
             16 => "the line \";\", and nothing after it?",
+            17 => "the whole payload present?",
             _ => "unknown question",
         };
         write!(f, "refused {}: {}", self.0, question)

@@ -10,11 +10,10 @@ use lib.ListN.{length, drop, length-append}
 use borrow.Author.Tests.{eq-eqb, ne-eqb, eqb-true}
 use Rattle.number.proofs.Split.{split}
 use Rattle.number.proofs.Questions.{refused-is}
-use Rattle.record.specs.Record.{end, cut, fieldsOf, fieldNo, fieldsNo, densities, nameOf}
+use Rattle.record.specs.Record.{end, fieldsOf, fieldNo, fieldsNo, densities, nameOf}
 use Rattle.record.specs.Steps.{checkedFields, refusedFields}
 use Rattle.record.specs.declared.questions.Checked.{Checked}
-use Rattle.record.proofs.Fields.{payload, WholeAt}
-use Rattle.record.proofs.Sizes.{cut-number}
+use Rattle.record.proofs.Fields.{payload, CutBy, WholeAt}
 
 -- an accepted name is the first field
 name-first : (first : Bool) (t : ℕ) (p : List ℕ) → fieldNo first t p ≡ 0 → t ≡ 1 → first ≡ true
@@ -63,8 +62,8 @@ module _ {bytes : List ℕ} {at measures name : ℕ} (g : Checking bytes at meas
       rw (no, many, rw (ne-eqb at 0 ne) at (g .named))
 
   -- at a cut field
-  pub cut-off : {n : ℕ} {r : Checked} → fieldsOf (drop at bytes) ≡ cut n → r ≡ refusedFields n → r ≡ checkedFields bytes
-  cut-off {n} e k = refuse n (rw e) (λ z. omega (arith, cut-number (drop at bytes) e)) k
+  pub cut-off : {n : ℕ} {r : Checked} → CutBy n (fieldsOf (drop at bytes)) → r ≡ refusedFields n → r ≡ checkedFields bytes
+  cut-off {n} c k = refuse n (c .asked (eqb at 0)) (c .refused) k
 
   -- at a whole field
   module _ {t s e : ℕ} (w : WholeAt bytes at t s e) {k : ℕ} (n : k ≡ fieldNo (eqb at 0) t (payload s e bytes)) where

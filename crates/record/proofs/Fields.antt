@@ -2,7 +2,8 @@
 -- Assumes nothing.
 use Prim.Native.Nat.{ℕ, zero, suc, _+_, _*_, _-_, _≤_, _<_}
 use mathlib.Core.Path.{_≡_, refl, sym, ap, _∙_}
-use mathlib.Core.Bool.{cond}
+use mathlib.Core.Logic.{_≢_}
+use mathlib.Core.Bool.{Bool, cond}
 use mathlib.Core.List.{List, [], _∷_}
 use native.Mathlib.Nat.{add-zero}
 use native.Mathlib.Omega.{arith}
@@ -11,7 +12,7 @@ use lib.ListN.{length, take, drop, getD, length-drop, drop-of-length-le}
 use lib.Seq.{drop-drop, getD-drop, length-take-le}
 use borrow.Author.Tests.{le-leb, lt-leb, leb-true, leb-false}
 use Rattle.number.proofs.Split.{split, never}
-use Rattle.record.specs.Record.{Fields, end, cut, whole, fieldsIn, fieldsOf}
+use Rattle.record.specs.Record.{Fields, end, headCut, payloadCut, whole, fieldsIn, fieldsOf, densities, fieldsNo}
 use Rattle.record.specs.Steps.{firstAt}
 use Rattle.record.specs.declared.field.Field.the-variants.{End, Cut, Whole}
 
@@ -33,14 +34,14 @@ enough (suc k) (suc j) (t ∷ u ∷ v ∷ bytes) g h =
 -- the first field of some bytes, of which three are there
 pub fields-head : (t u v : ℕ) (bytes : List ℕ)
     → fieldsOf (t ∷ u ∷ v ∷ bytes)
-    ≡ cond (leb (256 * u + v) (length bytes)) (whole t (take (256 * u + v) bytes) (fieldsOf (drop (256 * u + v) bytes))) (cut 8)
+    ≡ cond (leb (256 * u + v) (length bytes)) (whole t (take (256 * u + v) bytes) (fieldsOf (drop (256 * u + v) bytes))) payloadCut
 unfolding fieldsOf
 fields-head t u v bytes =
     let n = 256 * u + v in
     rw (enough (suc (suc (length bytes))) (length (drop n bytes)) (drop n bytes) (omega (arith, length-drop n bytes)) (omega arith))
 
--- with fewer than three bytes it is cut
-pub fields-few : (bytes : List ℕ) → 0 < length bytes → length bytes < 3 → fieldsOf bytes ≡ cut 8
+-- with fewer than three bytes its head is cut
+pub fields-few : (bytes : List ℕ) → 0 < length bytes → length bytes < 3 → fieldsOf bytes ≡ headCut
 unfolding fieldsOf
 fields-few [] g h = absurd (omega arith)
 fields-few (t ∷ []) g h = refl
@@ -64,7 +65,7 @@ module _ (bytes : List ℕ) (at : ℕ) where
   unfolding fieldsOf
   at-end h = rw (drop-of-length-le bytes {i = at} (omega arith))
 
-  pub at-few : 0 < length bytes - at → length bytes - at < 3 → fieldsOf (drop at bytes) ≡ cut 8
+  pub at-few : 0 < length bytes - at → length bytes - at < 3 → fieldsOf (drop at bytes) ≡ headCut
   at-few g h = fields-few (drop at bytes) (rw left g) (rw left h)
 
   three : 3 ≤ length bytes - at → drop at bytes ≡ getD bytes at 0 ∷ getD bytes (at + 1) 0 ∷ getD bytes (at + 2) 0 ∷ drop (at + 3) bytes
@@ -72,7 +73,7 @@ module _ (bytes : List ℕ) (at : ℕ) where
 
   pub at-head : 3 ≤ length bytes - at
       → fieldsOf (drop at bytes)
-      ≡ cond (leb long (length bytes - at - 3)) (whole (getD bytes at 0) (take long (drop (at + 3) bytes)) (fieldsOf (drop (at + 3 + long) bytes))) (cut 8)
+      ≡ cond (leb long (length bytes - at - 3)) (whole (getD bytes at 0) (take long (drop (at + 3) bytes)) (fieldsOf (drop (at + 3 + long) bytes))) payloadCut
   at-head h =
       let r : length (drop (at + 3) bytes) ≡ length bytes - at - 3 = omega (arith, length-drop (at + 3) bytes) in
       let head = fields-head (getD bytes at 0) (getD bytes (at + 1) 0) (getD bytes (at + 2) 0) (drop (at + 3) bytes) in
@@ -101,7 +102,7 @@ module _ (bytes : List ℕ) (at : ℕ) where
 
   module _ (n : ℕ) (e : n ≡ long bytes at) (h : 3 ≤ length bytes - at) where
     -- with less than the payload left
-    pub short : length bytes - at - 3 < n → Cut 8 ≡ firstAt at (fieldsOf (drop at bytes))
+    pub short : length bytes - at - 3 < n → Cut 17 ≡ firstAt at (fieldsOf (drop at bytes))
     short g = rw (at-head bytes at h, ← e, lt-leb n (length bytes - at - 3) g)
 
     -- at a whole field
@@ -115,13 +116,21 @@ module _ (bytes : List ℕ) (at : ℕ) where
 -- what End means: nothing is left
 pub is-end : (at : ℕ) (fs : Fields) → End ≡ firstAt at fs → fs ≡ end
 is-end at end a = refl
-is-end at (cut n) a = never (cc)
+is-end at headCut a = never (cc)
+is-end at payloadCut a = never (cc)
 is-end at (whole t p fs) a = never (cc)
 
--- what Cut means: bytes are left that are no whole field
-pub is-cut : (at n : ℕ) (fs : Fields) → Cut n ≡ firstAt at fs → fs ≡ cut n
+-- a cut field, of whichever kind: it has the number n, and no density follows
+pub record CutBy (n : ℕ) (fs : Fields) : Type 0 where
+  pub asked : (first : Bool) → fieldsNo first fs ≡ n
+  pub refused : n ≢ 0
+  pub none : densities fs ≡ []
+
+-- what Cut means
+pub is-cut : (at n : ℕ) (fs : Fields) → Cut n ≡ firstAt at fs → CutBy n fs
 is-cut at n end a = never (cc)
-is-cut at n (cut k) a = cc
+is-cut at n headCut a = let e : 8 ≡ n = cc in record { asked = λ first. e; refused = λ z. omega (arith, e); none = refl }
+is-cut at n payloadCut a = let e : 17 ≡ n = cc in record { asked = λ first. e; refused = λ z. omega (arith, e); none = refl }
 is-cut at n (whole t p fs) a = never (cc)
 
 -- what Whole means: a whole field is there
@@ -154,7 +163,7 @@ module _ (bytes : List ℕ) (at t s e : ℕ) (a : Whole t s e ≡ firstAt at (fi
       split (leb 3 left)
       (λ h. split (leb n (left - 3))
       (λ g. there n refl (leb-true 3 left h) (leb-true n (left - 3) g))
-      (λ g. not-cut 8 (short bytes at n refl (leb-true 3 left h) (leb-false n (left - 3) g))))
+      (λ g. not-cut 17 (short bytes at n refl (leb-true 3 left h) (leb-false n (left - 3) g))))
       (λ h. split (leb 1 left)
       (λ g. not-cut 8 (headless bytes at (λ z. omega (arith, leb-true 1 left g)) (leb-false 3 left h)))
       (λ g. not-end (ended bytes at (omega (arith, leb-false 1 left g)))))

@@ -11,7 +11,7 @@ use lib.Seq.{length-take-le}
 use borrow.Author.Tests.{leb-true}
 use Rattle.number.specs.Questions.{accepted}
 use Rattle.number.proofs.Split.{split}
-use Rattle.record.specs.Record.{Fields, end, cut, whole, fieldsOf, isName, fieldNo, fieldsNo, densities, nameOf, recordNo}
+use Rattle.record.specs.Record.{Fields, end, headCut, payloadCut, whole, fieldsOf, isName, fieldNo, fieldsNo, densities, nameOf, recordNo}
 use Rattle.rules.specs.Chart.{densitiesNo}
 use Rattle.record.proofs.Fields.{fields-few, fields-head, at-end}
 use Rattle.record.proofs.Sizes.{Sized, sized}
@@ -51,7 +51,8 @@ pub record Named (m n : ℕ) : Type 0 where
 
 named-in : (fs : Fields) (m : ℕ) → Sized fs m → fieldsNo true fs ≡ 0 → Named m (length (nameOf fs))
 named-in end m g h = absurd (omega (arith, h))
-named-in (cut n) m g h = absurd (omega (arith, h, g .1))
+named-in headCut m g h = absurd (omega (arith, h))
+named-in payloadCut m g h = absurd (omega (arith, h))
 named-in (whole t p fs) m g h =
     let yes = first-yes (fieldsNo false fs) (fieldNo true t p) h in
     split (eqb t 1)

@@ -1,6 +1,6 @@
 -- The loop of `place_densities` as lists. Nothing here speaks of code.
 -- Assumes nothing.
-use Prim.Native.Nat.{ℕ, _+_, _≤_}
+use Prim.Native.Nat.{ℕ, _≤_}
 use mathlib.Core.Path.{_≡_, refl, ap, _∙_}
 use mathlib.Core.List.{List, [], _++_, append-assoc, append-nil}
 use native.Mathlib.Omega.{arith}
@@ -8,9 +8,9 @@ use borrow.Author.Tests.{ne-eqb}
 use lib.ListN.{length, drop}
 use Rattle.number.specs.Place.{Room, Wrote}
 use Rattle.number.proofs.Place.{still, room-first, room-next, wrote, wrote-length, at-start}
-use Rattle.record.specs.Record.{end, cut, fieldsOf, densities}
+use Rattle.record.specs.Record.{end, fieldsOf, densities}
 use Rattle.record.specs.Steps.{RoomForAll, AllPlaced}
-use Rattle.record.proofs.Fields.{payload, WholeAt}
+use Rattle.record.proofs.Fields.{payload, CutBy, WholeAt}
 
 -- the densities of the fields before `at` are written
 module _ (bytes old : List ℕ) where
@@ -35,8 +35,8 @@ module _ {bytes old new : List ℕ} {at count : ℕ} (g : Placing bytes old new 
   pub ended : fieldsOf (drop at bytes) ≡ end → AllPlaced bytes old new
   ended e = done (rw e)
 
-  pub cut-off : {n : ℕ} → fieldsOf (drop at bytes) ≡ cut n → AllPlaced bytes old new
-  cut-off e = done (rw e)
+  pub cut-off : {n : ℕ} → CutBy n (fieldsOf (drop at bytes)) → AllPlaced bytes old new
+  cut-off c = done (c .none)
 
   module _ {t s e : ℕ} (w : WholeAt bytes at t s e) where
     abbrev p : List ℕ

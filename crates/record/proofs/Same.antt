@@ -1,17 +1,18 @@
--- Alike records are refused alike, and have equally many measures.
+-- Alike records get the same answer: they are cut in the same way, refused alike, and have equally many measures.
 -- Assumes nothing.
 use Prim.Native.Nat.{ℕ, _+_, _-_}
 use mathlib.Core.Path.{_≡_, refl, sym, ap, _∙_}
 use mathlib.Core.Bool.{Bool, true, false, cond}
 use mathlib.Core.List.{List, []}
-use native.Mathlib.Omega.{arith}
 use lib.Dec.{eqb}
 use lib.ListN.{length, length-map}
 use Rattle.number.proofs.Split.{split, never}
 use Rattle.rules.specs.Chart.{classOf}
-use Rattle.record.specs.Record.{Fields, end, cut, whole, fieldsOf, fieldNo, fieldsNo, densities, nameOf, recordNo}
+use Rattle.record.specs.Record.{Fields, end, headCut, payloadCut, whole, fieldsOf, fieldNo, fieldsNo, densities, nameOf, recordNo}
 use Rattle.record.specs.Alike.{tags, lengths, Alike}
-use Rattle.record.proofs.Sizes.{Sized, sized}
+use Rattle.record.specs.Promises.{ReadRecord}
+use Rattle.record.specs.declared.RecordAnswer.{RecordAnswer}
+use Rattle.record.proofs.Sizes.{remainder, Sized, sized}
 
 -- only a name's bytes are asked about, and only in the first field
 same-field : (first : Bool) (t : ℕ) (p q : List ℕ) → (first ≡ true → cond (eqb t 1) p [] ≡ cond (eqb t 1) q []) → fieldNo first t p ≡ fieldNo first t q
@@ -19,16 +20,21 @@ unfolding fieldNo
 same-field true t p q h = split (eqb t 1) (λ e. rw (rw e at (h refl))) (λ e. rw e)
 same-field false t p q h = split (eqb t 1) (λ e. rw e) (λ e. rw e)
 
+-- of equally many bytes without a whole field, both are cut in the same way
+same-remainder : {fs : Fields} (gs : Fields) {m n : ℕ} → fs ≡ remainder m → Sized gs n → m ≡ n → [] ≡ tags gs → fs ≡ gs
+same-remainder end g h e ts = g ∙ ap remainder e ∙ sym h
+same-remainder headCut g h e ts = g ∙ ap remainder e ∙ sym h
+same-remainder payloadCut g h e ts = g ∙ ap remainder e ∙ sym h
+same-remainder (whole t p gs) g h e ts = never (cc)
+
 same-fields : (first : Bool) (fs gs : Fields) (m n : ℕ) → Sized fs m → Sized gs n → m ≡ n → tags fs ≡ tags gs → lengths fs ≡ lengths gs
     → (first ≡ true → nameOf fs ≡ nameOf gs) → fieldsNo first fs ≡ fieldsNo first gs
-same-fields first end end m n g h e ts ls ns = refl
-same-fields first end (cut j) m n g h e ts ls ns = absurd (omega arith)
-same-fields first end (whole u q gs) m n g h e ts ls ns = never (cc)
-same-fields first (cut i) end m n g h e ts ls ns = absurd (omega arith)
-same-fields first (cut i) (cut j) m n g h e ts ls ns = g .1 ∙ sym (h .1)
-same-fields first (cut i) (whole u q gs) m n g h e ts ls ns = never (cc)
+same-fields first end gs m n g h e ts ls ns = ap (fieldsNo first) (same-remainder gs g h e ts)
+same-fields first headCut gs m n g h e ts ls ns = ap (fieldsNo first) (same-remainder gs g h e ts)
+same-fields first payloadCut gs m n g h e ts ls ns = ap (fieldsNo first) (same-remainder gs g h e ts)
 same-fields first (whole t p fs) end m n g h e ts ls ns = never (cc)
-same-fields first (whole t p fs) (cut j) m n g h e ts ls ns = never (cc)
+same-fields first (whole t p fs) headCut m n g h e ts ls ns = never (cc)
+same-fields first (whole t p fs) payloadCut m n g h e ts ls ns = never (cc)
 same-fields first (whole t p fs) (whole u q gs) m n g h e ts ls ns =
     let tag : u ≡ t = cc in
     let long : length p ≡ length q = cc in
@@ -46,3 +52,6 @@ module _ (a b : List ℕ) (s : Alike a b) where
       let named : true ≡ true → nameOf (fieldsOf a) ≡ nameOf (fieldsOf b) = λ f. s .names in
       let fields = same-fields true (fieldsOf a) (fieldsOf b) (length a) (length b) (sized a) (sized b) (s .long) (s .tagged) (s .sized) named in
       rw (fields, same-measures, h)
+
+  pub same-record : {old new₁ new₂ : List ℕ} {r₁ r₂ : RecordAnswer} → ReadRecord a old new₁ r₁ → ReadRecord b old new₂ r₂ → r₁ ≡ r₂
+  same-record {old} p q = p .answer ∙ rw (same-no old old refl, same-measures, s .names) (sym (q .answer))

@@ -1,28 +1,34 @@
 -- How many bytes the fields of a record take.
 -- Assumes nothing.
-use Prim.Native.Nat.{ℕ, zero, suc, _+_, _*_, _-_, _≤_, _<_}
+use Prim.Native.Nat.{ℕ, zero, suc, _+_, _*_, _-_, _≤_}
 use mathlib.Core.Path.{_≡_, refl}
+use mathlib.Core.Bool.{cond}
 use mathlib.Core.List.{List, [], _∷_}
 use native.Mathlib.Omega.{arith}
 use lib.Dec.{leb, eqb}
 use lib.ListN.{length, drop, length-append, length-drop}
 use lib.Seq.{length-take-le}
-use borrow.Author.Tests.{leb-true}
+use borrow.Author.Tests.{le-leb, leb-true}
 use Rattle.number.proofs.Split.{split}
-use Rattle.record.specs.Record.{Fields, end, cut, whole, fieldsIn, fieldsOf, densities}
+use Rattle.record.specs.Record.{Fields, end, headCut, payloadCut, whole, fieldsIn, fieldsOf, densities}
 
--- the fields fs are those of m bytes; a cut one is refused by 8
+-- m bytes that hold no whole field
+abbrev pub remainder : ℕ → Fields
+remainder m = cond (leb 1 m) (cond (leb 3 m) payloadCut headCut) end
+
+-- the fields fs are those of m bytes; which of the two cuts they end in is seen by the number of bytes alone
 abbrev pub Sized : Fields → ℕ → Type 0
-Sized end m = m ≡ 0
-Sized (cut n) m = (0 < m) × (n ≡ 8)
+Sized end m = end ≡ remainder m
+Sized headCut m = headCut ≡ remainder m
+Sized payloadCut m = payloadCut ≡ remainder m
 Sized (whole t p fs) m = (3 + length p ≤ m) × Sized fs (m - (3 + length p))
 
 sized-in : (k : ℕ) (bytes : List ℕ) → length bytes ≤ k → Sized (fieldsIn k bytes) (length bytes)
 sized-in zero [] h = refl
 sized-in zero (t ∷ bytes) h = absurd (omega arith)
 sized-in (suc k) [] h = refl
-sized-in (suc k) (t ∷ []) h = (omega arith, refl)
-sized-in (suc k) (t ∷ u ∷ []) h = (omega arith, refl)
+sized-in (suc k) (t ∷ []) h = refl
+sized-in (suc k) (t ∷ u ∷ []) h = refl
 sized-in (suc k) (t ∷ u ∷ v ∷ bytes) h =
     let n = 256 * u + v in
     split (leb n (length bytes))
@@ -30,19 +36,19 @@ sized-in (suc k) (t ∷ u ∷ v ∷ bytes) h =
     let long = length-take-le n bytes (leb-true n (length bytes) e) in
     let left : suc (suc (suc (length bytes))) - (3 + n) ≡ length (drop n bytes) = omega (arith, length-drop n bytes) in
     rw (e, long, left) (omega (arith, leb-true n (length bytes) e), sized-in k (drop n bytes) (omega (arith, length-drop n bytes))))
-    (λ e. rw e (omega arith, refl))
+    (λ e.
+    let m = suc (suc (suc (length bytes))) in
+    rw (e, le-leb 1 m (omega arith), le-leb 3 m (omega arith)) refl)
 
 pub sized : (bytes : List ℕ) → Sized (fieldsOf bytes) (length bytes)
 unfolding fieldsOf
 sized bytes = sized-in (length bytes) bytes (omega arith)
 
-pub cut-number : (bytes : List ℕ) {n : ℕ} → fieldsOf bytes ≡ cut n → n ≡ 8
-cut-number bytes e = (rw e at (sized bytes)) .1
-
 -- a record has more bytes than densities
 few : (fs : Fields) (m : ℕ) → Sized fs m → length (densities fs) ≤ m
 few end m h = omega arith
-few (cut n) m h = omega arith
+few headCut m h = omega arith
+few payloadCut m h = omega arith
 few (whole t p fs) m h =
     let rest = few fs (m - (3 + length p)) (h .1) in
     split (eqb t 2)

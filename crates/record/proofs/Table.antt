@@ -35,6 +35,19 @@ bad =
     []
 
 -- their numbers, where no place is lent
-pub refusals : map (λ r. recordNo r []) bad ≡ 8 ∷ 8 ∷ 9 ∷ 10 ∷ 10 ∷ 10 ∷ 11 ∷ 11 ∷ 11 ∷ 12 ∷ []
+pub refusals : map (λ r. recordNo r []) bad ≡ 8 ∷ 17 ∷ 9 ∷ 10 ∷ 10 ∷ 10 ∷ 11 ∷ 11 ∷ 11 ∷ 12 ∷ []
 unfolding fieldsOf fieldNo recordNo
 refusals = refl
+
+-- a field of two bytes, cut behind one byte, two, three and four
+abbrev cuts : ℕ → List (List ℕ)
+cuts tag = (tag ∷ []) ∷ (tag ∷ 0 ∷ []) ∷ (tag ∷ 0 ∷ 2 ∷ []) ∷ (tag ∷ 0 ∷ 2 ∷ 16 ∷ []) ∷ []
+
+-- whatever its tag, as first field and as a later one: 8 and 17 are asked before 9
+pub cut-first : (tag : ℕ) → map (λ r. recordNo r []) (cuts tag) ≡ 8 ∷ 8 ∷ 17 ∷ 17 ∷ []
+unfolding fieldsOf fieldNo recordNo
+cut-first tag = refl
+
+pub cut-later : (tag : ℕ) → map (λ r. recordNo (name r) []) (cuts tag) ≡ 8 ∷ 8 ∷ 17 ∷ 17 ∷ []
+unfolding fieldsOf fieldNo recordNo
+cut-later tag = refl

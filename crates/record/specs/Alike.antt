@@ -5,18 +5,20 @@ use mathlib.Core.Path.{_≡_}
 use mathlib.Core.List.{List, [], _∷_}
 use lib.ListN.{length}
 use Rattle.rules.specs.Chart.{classes}
-use Rattle.record.specs.Record.{Fields, end, cut, whole, fieldsOf, densities, nameOf}
+use Rattle.record.specs.Record.{Fields, end, headCut, payloadCut, whole, fieldsOf, densities, nameOf}
 
 -- the tags of the whole fields
 abbrev pub tags : Fields → List ℕ
 tags end = []
-tags (cut n) = []
+tags headCut = []
+tags payloadCut = []
 tags (whole tag payload fs) = tag ∷ tags fs
 
 -- their payloads' lengths
 abbrev pub lengths : Fields → List ℕ
 lengths end = []
-lengths (cut n) = []
+lengths headCut = []
+lengths payloadCut = []
 lengths (whole tag payload fs) = length payload ∷ lengths fs
 
 -- the same length in bytes, name, tags and field lengths, and the same class at each density of the whole fields

@@ -8,23 +8,24 @@ use lib.ListN.{length, take, drop}
 use Rattle.number.specs.Questions.{question, firstNo, accepted}
 use Rattle.rules.specs.Chart.{densitiesNo}
 
--- the fields of a record: nothing left, bytes left that are no whole field (with the question's number), or a whole field (tag, payload) and what follows it
+-- the fields of a record: nothing left, a field with fewer than three head bytes, one whose payload is shorter than its length says, or a whole
+-- field (tag, payload) and what follows it
 pub data Fields : Type 0 where
   end : Fields
-  cut : ℕ → Fields
+  headCut : Fields
+  payloadCut : Fields
   whole : ℕ → List ℕ → Fields → Fields
 
--- the fields of at most k bytes: a one-byte tag, a two-byte length (high byte first) and so many bytes.
--- Three head bytes and the whole payload present? 8
+-- the fields of at most k bytes: a one-byte tag, a two-byte length (high byte first) and so many bytes
 abbrev pub fieldsIn : ℕ → List ℕ → Fields
 fieldsIn zero bytes = end
 fieldsIn (suc k) [] = end
-fieldsIn (suc k) (tag ∷ []) = cut 8
-fieldsIn (suc k) (tag ∷ high ∷ []) = cut 8
+fieldsIn (suc k) (tag ∷ []) = headCut
+fieldsIn (suc k) (tag ∷ high ∷ []) = headCut
 fieldsIn (suc k) (tag ∷ high ∷ low ∷ bytes) =
     let n = 256 * high + low in
     let field = whole tag (take n bytes) (fieldsIn k (drop n bytes)) in
-    cond (leb n (length bytes)) field (cut 8)
+    cond (leb n (length bytes)) field payloadCut
 
 -- Chart record: its fields
 unfoldable pub fieldsOf : List ℕ → Fields
@@ -37,13 +38,15 @@ densitiesOf tag payload = cond (eqb tag 2) payload []
 -- Densities: those of all whole fields, end to end
 abbrev pub densities : Fields → List ℕ
 densities end = []
-densities (cut n) = []
+densities headCut = []
+densities payloadCut = []
 densities (whole tag payload fs) = densitiesOf tag payload ++ densities fs
 
 -- Name: the payload of the first field if that is of tag 01, else nothing
 abbrev pub nameOf : Fields → List ℕ
 nameOf end = []
-nameOf (cut n) = []
+nameOf headCut = []
+nameOf payloadCut = []
 nameOf (whole tag payload fs) = cond (eqb tag 1) payload []
 
 -- all bytes from 20 to 7E
@@ -61,10 +64,11 @@ fieldNo first tag payload =
     let name = eqb tag 1 in
     firstNo (question 9 (name || eqb tag 2) ∷ question 10 (cond first name (not name)) ∷ question 11 (cond name (isName payload) true) ∷ [])
 
--- field by field: a cut field's own number, 10 where there is none at all
+-- field by field. Three head bytes present? 8. The whole payload present? 17. Then the questions of a whole field. An empty file answers no to 10
 abbrev pub fieldsNo : Bool → Fields → ℕ
 fieldsNo first end = cond first 10 0
-fieldsNo first (cut n) = n
+fieldsNo first headCut = 8
+fieldsNo first payloadCut = 17
 fieldsNo first (whole tag payload fs) =
     let no = fieldNo first tag payload in
     accepted no (fieldsNo false fs) no

@@ -6,16 +6,18 @@ use mathlib.Core.Bool.{true}
 use mathlib.Core.List.{List}
 use lib.ListN.{length}
 use Rattle.number.specs.Questions.{accepted, filled}
-use Rattle.record.specs.Record.{Fields, end, cut, whole, fieldsOf, fieldsNo, densities, nameOf}
+use Rattle.record.specs.Record.{Fields, end, headCut, payloadCut, whole, fieldsOf, fieldsNo, densities, nameOf}
 use Rattle.record.specs.declared.field.Field.{Field}
 use Rattle.record.specs.declared.field.Field.the-variants.{End, Cut, Whole}
 use Rattle.record.specs.declared.questions.Checked.{Checked}
 use Rattle.record.specs.declared.RecordAnswer.{RecordAnswer}
 
--- the first of some fields, which begin at the place `at`: a whole one by tag, first place of its payload and place behind it
+-- the first of some fields, which begin at the place `at`: a cut one by its question's number, a whole one by tag, first place of its payload and place
+-- behind it
 abbrev pub firstAt : ℕ → Fields → Field
 firstAt at end = End
-firstAt at (cut n) = Cut n
+firstAt at headCut = Cut 8
+firstAt at payloadCut = Cut 17
 firstAt at (whole tag payload fs) = Whole tag (at + 3) (at + 3 + length payload)
 
 -- a place of some bytes, their end included

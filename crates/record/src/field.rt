@@ -9,7 +9,7 @@ ghost use Rattle.record.specs.Steps.{BytePlace, firstAt};
 pub enum Field {
     // Nothing is left.
     End,
-    // Bytes are left that are no whole field: the question's number.
+    // A field is cut, in its head or in its payload: the question's number.
     Cut(u32),
     // A whole field, with its payload from `start` up to `end`.
     Whole { tag: u8, start: usize, end: usize },
@@ -22,7 +22,7 @@ fn length_of(high: u8, low: u8) -> usize
     256 * (high as usize) + (low as usize)
 }
 
-// The field that begins at the place `at`.
+// The field that begins at the place `at`. Question 8 is asked, then 17.
 pub fn field_at(bytes: &[u8], at: usize) -> Field
     requires { ⌜ BytePlace (now bytes) at ⌝ }
     ensures { λ r. ⌜ r ≡ firstAt at (fieldsOf (drop at (now (bytes .entry)))) ⌝ }
@@ -36,7 +36,7 @@ pub fn field_at(bytes: &[u8], at: usize) -> Field
     }
     let length = length_of(bytes[at + 1], bytes[at + 2]);
     if left - 3 < length {
-        return Field::Cut(8);
+        return Field::Cut(17);
     }
     Field::Whole {
         tag: bytes[at],

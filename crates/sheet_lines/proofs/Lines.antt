@@ -14,7 +14,7 @@ use Rattle.number.proofs.Each.{none, _&_, each-append}
 use Rattle.rules.specs.Chart.{classes, counts, countNumbers}
 use Rattle.rules.specs.declared.StreamCounts.{StreamCounts}
 use Rattle.rules.proofs.Lines.{OneLine, digits-line}
-use Rattle.record.specs.Record.{Fields, end, cut, whole, fieldsOf, printable, isName, fieldNo, fieldsNo, nameOf, recordNo}
+use Rattle.record.specs.Record.{Fields, end, headCut, payloadCut, whole, fieldsOf, printable, isName, fieldNo, fieldsNo, nameOf, recordNo}
 use Rattle.stream_outputs.specs.Promises.{passNo}
 use Rattle.sheet_lines.specs.Sheet.{inputFits, places, textBytes, totalBytes, firstRefusal, chartOf, totalNo, sheetNo}
 use Rattle.sheet_lines.specs.Sheet.{line, partedBySpaces, countsLine, sheetKinds, textLines, sheetBytes}
@@ -41,7 +41,8 @@ first-zero (suc n) k h = h
 
 name-line : (fs : Fields) → fieldsNo true fs ≡ 0 → OneLine (nameOf fs)
 name-line end h = none
-name-line (cut n) h = none
+name-line headCut h = none
+name-line payloadCut h = none
 name-line (whole t p fs) h =
     split (eqb t 1)
     (λ e. rw e (named-field t p e (first-zero (fieldNo true t p) (fieldsNo false fs) h)))

@@ -1,6 +1,7 @@
 //! The charts that are compared.
 
 use crate::random::Random;
+use crate::small;
 
 /// Densities of a break and of the four stream classes.
 const SMALL: [usize; 5] = [0, 16, 20, 24, 32];
@@ -38,15 +39,9 @@ const RUNS: [usize; 24] = [
 /// Lengths that are rarer, since such charts are long.
 const LONG_RUNS: [usize; 8] = [498, 499, 998, 999, 1000, 1001, 9999, 10_000];
 
-/// How many charts of `length` measures have the small densities alone.
-pub fn small_count(length: usize) -> usize {
-    SMALL.len().pow(length as u32)
-}
-
-/// Chart number `number` of those.
-pub fn small(length: usize, number: usize) -> Vec<usize> {
-    let digit = |i: u32| number / SMALL.len().pow(i) % SMALL.len();
-    (0..length as u32).map(|i| SMALL[digit(i)]).collect()
+/// All charts of `length` measures that have the small densities alone.
+pub fn small(length: usize) -> impl Iterator<Item = Vec<usize>> {
+    small::lists(&SMALL, length)
 }
 
 /// Runs and gaps, with a lead-in and a tail.

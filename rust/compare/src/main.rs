@@ -1,9 +1,12 @@
 //! Compares the crate with the unchanged original: counts, segments, tokens and the seven texts by every call, and the places
-//! of lent slices that must not change. The original has no reader of note rows; that is compared with a plain one.
+//! of lent slices that must not change. The original has no reader of chart records or of note rows; those are compared with
+//! plain ones.
 //!
 //! compare [--quick] [SEED]
 
+mod chart_records;
 mod charts;
+mod densities;
 mod guarded;
 mod lent;
 #[path = "../../../judge/src/math.rs"]
@@ -12,8 +15,11 @@ mod note_rows;
 mod numbers;
 mod original;
 mod owned;
+mod plain_record;
 mod plain_rows;
 mod random;
+mod records;
+mod small;
 #[path = "../../../judge/src/streams.rs"]
 mod streams;
 mod tally;
@@ -37,6 +43,7 @@ struct Extent {
     counted: usize,
     long: usize,
     rows: note_rows::Extent,
+    records: chart_records::Extent,
 }
 
 const FULL: Extent = Extent {
@@ -53,6 +60,11 @@ const FULL: Extent = Extent {
         full: 100_000,
         long: 10,
     },
+    records: chart_records::Extent {
+        small: 8,
+        random: 100_000,
+        long: 3,
+    },
 };
 
 const QUICK: Extent = Extent {
@@ -67,6 +79,11 @@ const QUICK: Extent = Extent {
         small: 6,
         short: 50_000,
         full: 5_000,
+        long: 1,
+    },
+    records: chart_records::Extent {
+        small: 6,
+        random: 5_000,
         long: 1,
     },
 };
@@ -97,9 +114,10 @@ fn main() -> ExitCode {
     let mut tally = Tally::default();
     let outcome = compare(if quick { &QUICK } else { &FULL }, seed, &mut tally);
     println!(
-        "{} charts, {} texts of note rows, {} comparisons, seed {seed}, {:.1} s",
+        "{} charts, {} texts of note rows, {} records, {} comparisons, seed {seed}, {:.1} s",
         tally.charts,
         tally.texts,
+        tally.records,
         tally.comparisons,
         start.elapsed().as_secs_f64()
     );
@@ -137,7 +155,8 @@ fn compare(extent: &Extent, seed: u64, tally: &mut Tally) -> Outcome {
     );
     domain_edge(extent, random, tally)?;
     say(tally, "charts at the domain's edge");
-    note_rows::compare(&extent.rows, random, tally)
+    note_rows::compare(&extent.rows, random, tally)?;
+    chart_records::compare(&extent.records, random, tally)
 }
 
 fn say(tally: &Tally, what: &str) {
@@ -163,8 +182,8 @@ fn chart(m: &[usize], lends: Lends, tally: &mut Tally) -> Outcome {
 fn small_charts(extent: &Extent, tally: &mut Tally) -> Outcome {
     for length in 0..=extent.small {
         let lends = Lends::around_if(length <= extent.small_lent);
-        for number in 0..charts::small_count(length) {
-            chart(&charts::small(length, number), lends, tally)?;
+        for m in charts::small(length) {
+            chart(&m, lends, tally)?;
         }
     }
     Ok(())

@@ -1,13 +1,11 @@
 //! Note rows: the crate's reader beside a plain one.
 
-use crate::guarded::Guarded;
+use crate::densities;
 use crate::plain_rows;
 use crate::random::Random;
 use crate::tally::{Outcome, Tally};
 use crate::texts;
 use puvolamie::{lent, Refused};
-
-const MARK: u32 = 0xA5A5_A5A5;
 
 /// How much is compared: small texts by their length, random texts by their number, and long texts of each length.
 pub struct Extent {
@@ -49,8 +47,7 @@ fn say(tally: &Tally, what: &str) {
 
 fn small_texts(most: usize, tally: &mut Tally) -> Outcome {
     for length in 0..=most {
-        for number in 0..texts::small_count(length) {
-            let text = texts::small(length, number);
+        for text in texts::small(length) {
             compare_text(&text, tally)?;
             compare_text(&[b"0100\n", &text[..]].concat(), tally)?;
         }
@@ -79,40 +76,18 @@ fn random_texts(
 fn compare_text(text: &[u8], tally: &mut Tally) -> Outcome {
     tally.texts += 1;
     let due = plain_rows::read(text);
-    let lent = match &due {
-        Ok(densities) => accepted(text, densities, tally),
-        Err(number) => refused(text, *number, tally),
-    };
-    lent.and_then(|()| owned(text, due, tally))
+    lent(text, &due, tally)
+        .and_then(|()| owned(text, due, tally))
         .map_err(|difference| format!("{difference}\nin the text {}", texts::described(text)))
 }
 
-/// No place, one too few, one for each measure, and more.
-fn accepted(text: &[u8], due: &[u32], tally: &mut Tally) -> Outcome {
-    let measures = due.len();
-    for room in [0, measures - 1] {
-        lent(text, room, Err(12), tally)?;
-    }
-    for room in [measures, measures + 3] {
-        lent(text, room, Ok(due), tally)?;
-    }
-    Ok(())
-}
-
-/// No place, and more than enough.
-fn refused(text: &[u8], number: u32, tally: &mut Tally) -> Outcome {
-    for room in [0, text.len() + 1] {
-        lent(text, room, Err(number), tally)?;
-    }
-    Ok(())
-}
-
-fn lent(text: &[u8], room: usize, due: Result<&[u32], u32>, tally: &mut Tally) -> Outcome {
-    let mut densities = Guarded::new(room, MARK);
-    let r = lent::read_note_rows(text, densities.lend());
-    let answer = due.map(<[u32]>::len).map_err(Refused);
-    tally.same("lent read_note_rows", r, answer)?;
-    densities.compare("lent read_note_rows", due.unwrap_or_default(), tally)
+fn lent(text: &[u8], due: &Result<Vec<u32>, u32>, tally: &mut Tally) -> Outcome {
+    let due = match due {
+        Ok(densities) => Ok((densities.len(), &densities[..])),
+        Err(number) => Err(*number),
+    };
+    let read = |densities: &mut [u32]| lent::read_note_rows(text, densities);
+    densities::compare("lent read_note_rows", due, text.len() + 1, read, tally)
 }
 
 fn owned(text: &[u8], due: Result<Vec<u32>, u32>, tally: &mut Tally) -> Outcome {

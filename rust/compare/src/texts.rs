@@ -1,6 +1,7 @@
 //! The texts of note rows that are compared.
 
 use crate::random::Random;
+use crate::small;
 
 /// Bytes of the three kinds of lines, and one that stands in none.
 const SMALL: &[u8] = b"01M,;\n\r";
@@ -15,15 +16,9 @@ const CHANGES: &[u8] = b"01234M,;\n,;\n\r\0 +-/5:<LNm\xFF";
 const FEW_ROWS: [usize; 14] = [0, 0, 1, 1, 2, 3, 4, 4, 4, 8, 12, 16, 24, 48];
 const MANY_ROWS: [usize; 8] = [0, 1, 190, 191, 192, 192, 193, 194];
 
-/// How many texts of `length` bytes have the small bytes alone.
-pub fn small_count(length: usize) -> usize {
-    SMALL.len().pow(length as u32)
-}
-
-/// Text number `number` of those.
-pub fn small(length: usize, number: usize) -> Vec<u8> {
-    let digit = |i: u32| number / SMALL.len().pow(i) % SMALL.len();
-    (0..length as u32).map(|i| SMALL[digit(i)]).collect()
+/// All texts of `length` of the small bytes.
+pub fn small(length: usize) -> impl Iterator<Item = Vec<u8>> {
+    small::lists(SMALL, length)
 }
 
 /// A short text, accepted, with every byte in turn at each of its places.
