@@ -12,6 +12,7 @@ use Rattle.segments.proofs.Same as segments
 use Rattle.chart_texts.proofs.Same.{same-breakdown, same-breakdowns}
 use Rattle.label.proofs.Same.{same-label}
 use Rattle.stream_outputs.proofs.Same.{same-outputs}
+use Rattle.record.proofs.Sizes.{same-ending}
 use Rattle.record.proofs.Same.{same-record}
 use Rattle.sheet_lines.proofs.Same.{same-sheet}
 use Rattle.acceptance.specs.FirstHalf.{OfCharts, FirstHalf}
@@ -37,5 +38,6 @@ first-half =
       charts = λ a b s. of-charts a b (same-classes a b s);
       alike = λ a b c d s t. same-alike a b (same-classes a b s) c d (same-classes c d t);
       sheet = λ a b r₁ r₂ s p q. p .answer ∙ rw (same-sheet a b s) (sym (q .answer));
+      cut = λ a b s. same-ending a b (s .long) (s .sized);
       chartRecord = λ a b old new₁ new₂ r₁ r₂ s p q. same-record a b s p q;
     }

@@ -22,7 +22,8 @@ use Rattle.label.specs.Promises.{Label}
 use Rattle.label.specs.declared.LabelWritten.{LabelWritten}
 use Rattle.stream_outputs.specs.Promises.{Outputs}
 use Rattle.stream_outputs.specs.declared.StreamOutputs.{StreamOutputs}
-use Rattle.record.specs.Alike.{Alike}
+use Rattle.record.specs.Record.{fieldsOf}
+use Rattle.record.specs.Alike.{ending, Alike}
 use Rattle.record.specs.Promises.{ReadRecord}
 use Rattle.record.specs.declared.RecordAnswer.{RecordAnswer}
 use Rattle.sheet_lines.specs.Sheet.{Printed}
@@ -61,6 +62,8 @@ pub record FirstHalf : Type 0 where
   pub alike : (a b c d : List ℕ) → SameClasses a b → SameClasses c d → alikeAnswer a c ≡ alikeAnswer b d
   -- sheet: records of the same length in bytes, name, tags and field lengths, and equal classes at the densities of their whole fields
   pub sheet : (a b : List ℕ) (r₁ r₂ : Sheet) → Alike a b → Printed a r₁ → Printed b r₂ → r₁ ≡ r₂
-  -- read_chart_record, of such records: the answer is the same, so both are whole or both are cut in the same way; the slice holds each chart's own densities
+  -- such records are cut in the same way, if they are cut
+  pub cut : (a b : List ℕ) → Alike a b → ending (fieldsOf a) ≡ ending (fieldsOf b)
+  -- read_chart_record gives the same answer for both; the densities that it writes are each chart's own
   pub chartRecord : (a b old new₁ new₂ : List ℕ) (r₁ r₂ : RecordAnswer)
       → Alike a b → ReadRecord a old new₁ r₁ → ReadRecord b old new₂ r₂ → r₁ ≡ r₂

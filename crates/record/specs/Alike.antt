@@ -21,6 +21,13 @@ lengths headCut = []
 lengths payloadCut = []
 lengths (whole tag payload fs) = length payload ∷ lengths fs
 
+-- how they end: nothing is left behind the last whole field, or one of the two cuts
+abbrev pub ending : Fields → Fields
+ending end = end
+ending headCut = headCut
+ending payloadCut = payloadCut
+ending (whole tag payload fs) = ending fs
+
 -- the same length in bytes, name, tags and field lengths, and the same class at each density of the whole fields
 pub record Alike (a b : List ℕ) : Type 0 where
   pub long : length a ≡ length b
