@@ -168,7 +168,7 @@ pv_range pv_active_range(const uint32_t *m, size_t m_length);
 /* Counts. Question 1. */
 pv_counts_answer pv_compute_stream_counts(const uint32_t *m, size_t m_length);
 
-/* 10,000 x s / (s + total_breaks), rounded down, s the stream measures. Questions 1, 7. */
+/* 10,000 x s / (s + sn_breaks), rounded down, s the stream measures; at most 10,000. Questions 1, 7. */
 pv_share_answer pv_share(const uint32_t *m, size_t m_length);
 
 /* Have two charts the same standard detailed text? Question 1, of both. */

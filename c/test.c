@@ -244,13 +244,30 @@ static void test_counts(const struct chart *chart)
 {
     pv_counts_answer r = pv_compute_stream_counts(m, m_length);
     expect(r.refused == PV_ACCEPTED && same_counts(r.counts, chart->counts), "counts");
+}
+
+/* The share that is due, also behind `lead` breaks and before `tail` of them. */
+static void expect_share(uint32_t number, uint32_t share, size_t lead, size_t tail)
+{
+    static uint32_t longer[MOST];
+    for (size_t i = 0; i < lead + m_length + tail; i++)
+        longer[i] = i >= lead && i < lead + m_length ? m[i - lead] : 15;
+    pv_share_answer s = pv_share(longer, lead + m_length + tail);
+    expect(s.refused == number && s.share == share, "share");
+}
+
+static void test_share(const struct chart *chart)
+{
     const pv_counts *c = &chart->counts;
     uint32_t streams = c->run16_streams + c->run20_streams + c->run24_streams + c->run32_streams;
-    pv_share_answer s = pv_share(m, m_length);
-    if (streams == 0)
-        expect(s.refused == PV_NO_STREAM_MEASURE && s.share == 0, "share without a stream measure");
-    else
-        expect(s.refused == PV_ACCEPTED && s.share == 10000 * streams / (streams + c->total_breaks), "share");
+    uint32_t number = streams == 0 ? PV_NO_STREAM_MEASURE : PV_ACCEPTED;
+    uint32_t share = streams == 0 ? 0 : 10000 * streams / (streams + c->sn_breaks);
+    expect(strcmp(chart->name, "12") != 0 || share == 5555, "the share of case 12");
+    for (size_t ends = 0; ends < 4; ends++) {
+        expect_share(number, share, ends, 0);
+        expect_share(number, share, 0, ends);
+        expect_share(number, share, ends, 100 * ends);
+    }
 }
 
 static void test_active_range(void)
@@ -372,6 +389,7 @@ static void test_chart(const struct chart *chart)
     test_three(chart, 3);
     test_pass(chart);
     test_counts(chart);
+    test_share(chart);
     test_active_range();
     test_tokens(chart);
     test_segments();
@@ -644,7 +662,8 @@ static void test_domain(size_t measures)
     expect(few != 0 || wrote(0, 0), "the refused pass writes nothing");
     pv_counts_answer c = pv_compute_stream_counts(chart, measures);
     expect(c.refused == number && c.counts.run16_streams == few, "counts");
-    expect(pv_share(chart, measures).refused == number, "share");
+    pv_share_answer s = pv_share(chart, measures);
+    expect(s.refused == number && s.share == (few != 0 ? 10000 : 0), "share");
     expect(pv_alike(chart, measures, m, m_length).refused == number, "alike, first");
     expect(pv_alike(m, m_length, chart, measures).refused == number, "alike, second");
     expect(pv_segment_at(chart, measures, 0).refused == number, "segment by number");

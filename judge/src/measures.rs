@@ -106,7 +106,7 @@ fn word_and_list(word: &str, list: &[String]) -> String {
     }
 }
 
-/// Share is no part of the original: worked out here from its counts.
+/// Share is no part of the original: worked out here from its counts, by the rule of document 02, A.3.
 fn shown_share(counts: &StreamCounts) -> String {
     let runs = [
         counts.run16_streams,
@@ -118,6 +118,6 @@ fn shown_share(counts: &StreamCounts) -> String {
     if streams == 0 {
         return "share refused 7".into();
     }
-    let all = streams + u64::from(counts.total_breaks);
+    let all = streams + u64::from(counts.sn_breaks);
     format!("share {}", 10_000 * streams / all)
 }

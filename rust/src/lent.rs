@@ -49,7 +49,7 @@ pub fn compute_stream_counts(m: &[u32]) -> Result<StreamCounts, Refused> {
     Refused::unless(r.refused, r.counts)
 }
 
-/// Share of the stream measures, in parts of 10,000. Questions 1, 7.
+/// Share: 10,000 × s divided by (s + sn_breaks), rounded down, s the stream measures; at most 10,000. Questions 1, 7.
 pub fn share(m: &[u32]) -> Result<u32, Refused> {
     let r = ffi::share(m);
     Refused::unless(r.refused, r.share)

@@ -105,7 +105,7 @@ fn tokens_and_segments_of_case_12() {
         segment(8, 9, false),
     ];
     assert_eq!(stream_sequences(&m), Ok(segments));
-    assert_eq!(lent::share(&densities(&m)), Ok(6250));
+    assert_eq!(lent::share(&densities(&m)), Ok(5555));
 }
 
 #[test]

@@ -51,7 +51,7 @@ count-last : (c : ℕ) (cs : List ℕ) → count (suc c) (toLast cs) ≡ count (
 count-last c [] = refl
 count-last c (d ∷ cs) = rw (count-keep c d (toLast cs), count-last c cs)
 
-count-active : (c : ℕ) (cs : List ℕ) → count (suc c) (active cs) ≡ count (suc c) cs
+pub count-active : (c : ℕ) (cs : List ℕ) → count (suc c) (active cs) ≡ count (suc c) cs
 unfolding active
 count-active c [] = refl
 count-active c (zero ∷ cs) = rw (ne-eqb (suc c) 0 (omega arith)) (count-active c cs)

@@ -1,5 +1,6 @@
 // Share of the stream measures.
 use crate::chart_counts;
+ghost use Prim.Native.Nat.{_*_, _/_, _<_};
 ghost use mathlib.Core.Path.{_≡_};
 ghost use Rattle.counts.specs.Promises.{shareAnswer};
 
@@ -10,7 +11,15 @@ pub struct ShareAnswer {
     pub share: u32,
 }
 
-// Share: 10,000 x s divided by (s + total_breaks), rounded down, s the stream measures. 10,000 x s does not fit a u32.
+// part of all in parts of 10,000, rounded down. 10,000 x part does not fit a u32.
+fn ten_thousandths(part: u32, all: u32) -> u64
+    requires { ⌜ 0 < all ⌝ }
+    ensures { λ r. ⌜ r ≡ (10000 * part) / all ⌝ }
+{
+    10000 * (part as u64) / (all as u64)
+}
+
+// Share: 10,000 x s divided by (s + sn_breaks), rounded down, s the stream measures; at most 10,000.
 pub fn share(m: &[u32]) -> ShareAnswer
     ensures { λ r. ⌜ r ≡ shareAnswer (now (m .entry)) ⌝ }
 {
@@ -31,7 +40,8 @@ pub fn share(m: &[u32]) -> ShareAnswer
             share: 0,
         };
     }
-    let share = 10000 * (streams as u64) / ((streams + counts.total_breaks) as u64);
+    let all = streams + counts.sn_breaks;
+    let share = ten_thousandths(streams, all);
     ShareAnswer {
         refused: 0,
         share: share as u32,

@@ -10,4 +10,4 @@ use Rattle.rules.specs.Calls.{share}
 -- also without a stream measure, where 0 divided by 0 is 0
 pub share-most : (cs : List ℕ) → share cs ≤ 10000
 unfolding share
-share-most cs = div-le-of-le-mul (streams cs + counts cs .«total_breaks») (omega arith)
+share-most cs = div-le-of-le-mul (streams cs + counts cs .«sn_breaks») (omega arith)

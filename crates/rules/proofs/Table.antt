@@ -63,7 +63,7 @@ table =
 
 pub as-printed :
     (map computed table ≡ table)
-    × (share (classes case12) ≡ 6250)
+    × (share (classes case12) ≡ 5555)
     × (segments (classes case12) ≡ piece 0 2 ∷ piece 3 5 ∷ break 5 8 ∷ piece 8 9 ∷ [])
 unfolding computed counts text render reduced classOf active tokens pieces digits share segments
 as-printed = (refl, refl, refl)

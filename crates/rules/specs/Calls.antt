@@ -54,9 +54,9 @@ afterSteps (suc k) m = afterSteps k (afterStep m)
 abbrev pub runSymbol : ℕ → ℕ → Bool → List ℕ
 runSymbol c n s = word (run c n s)
 
--- Share: 10,000 × s divided by (s + total_breaks), rounded down, s the stream measures
+-- Share (document 02, A.3): 10,000 × s divided by (s + sn_breaks), rounded down, s the stream measures; at most 10,000
 unfoldable pub share : List ℕ → ℕ
-share cs = (10000 * streams cs) / (streams cs + counts cs .«total_breaks»)
+share cs = (10000 * streams cs) / (streams cs + counts cs .«sn_breaks»)
 
 -- Label: the standard levels in the order in which they are tried, and their numbers
 abbrev pub levels : List StreamBreakdownLevel

@@ -89,6 +89,7 @@ fn read_off(m: &[u32], original: &Original, tally: &mut Tally) -> Outcome {
     tally.same("active_range", lent::active_range(m), active)?;
     let share = original.share().ok_or(Refused(7));
     tally.same("share", lent::share(m), share)?;
+    tally.same("share of the active part", lent::share(active), share)?;
     let flat: Vec<u32> = active
         .iter()
         .map(|&d| if d < 16 { 7 } else { 40 })

@@ -53,7 +53,7 @@ const FULL: Extent = Extent {
     scattered: 500_000,
     lent_every: 10,
     counted: 300,
-    long: 7,
+    long: 9,
     rows: note_rows::Extent {
         small: 8,
         short: 1_000_000,

@@ -102,7 +102,7 @@ impl Original {
         fits.map(|((level, _), text)| (*level, text.as_str()))
     }
 
-    /// Share, worked out from the original's counts; none without a stream measure.
+    /// Share, worked out from the original's counts by the rule of A.3; none without a stream measure.
     pub fn share(&self) -> Option<u32> {
         let c = &self.counts;
         let runs = [
@@ -112,7 +112,7 @@ impl Original {
             c.run32_streams,
         ];
         let streams: u64 = runs.into_iter().map(u64::from).sum();
-        let share = (10_000 * streams).checked_div(streams + u64::from(c.total_breaks))?;
+        let share = (10_000 * streams).checked_div(streams + u64::from(c.sn_breaks))?;
         (streams != 0).then_some(share as u32)
     }
 }

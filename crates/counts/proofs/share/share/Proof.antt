@@ -35,33 +35,24 @@ returns-2 c =
     let none : streams (classes (r .before .before .before .args .m .now)) ≡ 0 = sym (counted r .sum) ∙ c .if2 .taken in
     rw (le-leb _ 1048576 (r .before .if1 .left), none)
 
-cast-share : tie.Need-cast-share
-cast-share c = search needs
+add-all : tie.Need-add-all
+add-all c = let k = counted (c .before .before .before .before .before) in omega arith
 
-mul-share : tie.Need-mul-share
-mul-share c = search needs
+ten-thousandths-requires : tie.Need-ten-thousandths-requires
+ten-thousandths-requires c κs = search needs
 
-add-share : tie.Need-add-share
-add-share c = let k = counted (c .before .before .before .before .before) in omega arith
-
-cast-share-2 : tie.Need-cast-share-2
-cast-share-2 c = search needs
-
-div-share : tie.Need-div-share
-div-share c = search needs
-
-cast-t7 : tie.Need-cast-t7
-cast-t7 c =
-    let r = c .before .before .before .before .before in
+cast-t9 : tie.Need-cast-t9
+cast-t9 c =
+    let r = c .before .before .before .before .before .before in
     let k = counted r in
     omega (arith, share-most (classes (r .before .before .before .args .m .now)))
 
 returns-3 : tie.Need-returns-3
 returns-3 c =
-    let r = c .before .before .before .before .before in
+    let r = c .before .before .before .before .before .before in
     let k = counted r in
     let some = lt-ltb 0 (streams (classes (r .before .before .before .args .m .now))) (omega arith) in
-    rw (le-leb _ 1048576 (r .before .if1 .left), some, k .part)
+    rw (le-leb _ 1048576 (r .before .if1 .left), some, c .ten-thousandths .ensures, k .part)
 
 pub share-spec : {M : Type 1} → statement M
 share-spec =
@@ -73,10 +64,7 @@ share-spec =
     add-streams-2
     add-streams-3
     returns-2
-    cast-share
-    mul-share
-    add-share
-    cast-share-2
-    div-share
-    cast-t7
+    add-all
+    ten-thousandths-requires
+    cast-t9
     returns-3)
