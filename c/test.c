@@ -85,25 +85,27 @@ struct chart {
     const char *name;
     struct stretch stretches[6];
     pv_counts counts;
+    uint32_t share; /* 0 without a stream measure */
     const char *texts[7]; /* SN detailed, partial, simplified, standard detailed, partial, simple, Total */
 };
 
 #define NONE "No Streams!"
 
 static const struct chart charts[] = {
-    {"1", {{0, 0}}, {0, 0, 0, 0, 0, 0}, {"", "", "", NONE, NONE, NONE, NONE}},
-    {"2", {{15, 1}}, {0, 0, 0, 0, 0, 0}, {"", "", "", NONE, NONE, NONE, NONE}},
-    {"3", {{16, 1}}, {1, 0, 0, 0, 0, 0}, {"1", "1", "1", "1", "1", "1", "1 Total"}},
-    {"4", {{19, 1}, {20, 1}}, {1, 1, 0, 0, 0, 0}, {"1 ~1~", "1 ~1~", "1 ~1~", "2", "2", "2", "2 Total"}},
-    {"5", {{16, 1}, {0, 1}, {16, 1}}, {2, 0, 0, 0, 0, 1}, {"1 1", "3*", "3*", "1-1", "1-1", "3*", "2 Total"}},
-    {"6", {{16, 1}, {0, 4}, {16, 1}}, {2, 0, 0, 0, 4, 4}, {"1 (4) 1", "1 - 1", "6*", "1 (4) 1", "1-1", "1-1", "2 Total"}},
-    {"7", {{16, 1}, {0, 5}, {16, 1}}, {2, 0, 0, 0, 5, 5}, {"1 (5) 1", "1 / 1", "1 / 1", "1 (5) 1", "1/1", "1/1", "2 Total"}},
-    {"8", {{16, 1}, {0, 32}, {16, 1}}, {2, 0, 0, 0, 32, 32}, {"1 (32) 1", "1 / 1", "1 / 1", "1 (32) 1", "1 | 1", "1 | 1", "2 Total"}},
-    {"9", {{16, 1}, {0, 33}, {16, 1}}, {2, 0, 0, 0, 33, 33}, {"1 (33) 1", "1 | 1", "1 | 1", "1 (33) 1", "1 | 1", "1 | 1", "2 Total"}},
-    {"10", {{32, 1}, {0, 2}, {16, 1}}, {1, 0, 0, 1, 2, 2}, {"=1= (2) 1", "=1= - 1", "=3=* 1", "1 (2) 1", "1-1", "1-1", "2 Total"}},
-    {"11", {{0, 2}, {16, 1}}, {1, 0, 0, 0, 2, 0}, {"1", "1", "1", "1", "1", "1", "1 Total"}},
-    {"11, 1 q", {{0, 1}, {16, 1}}, {1, 0, 0, 0, 0, 0}, {"1", "1", "1", "1", "1", "1", "1 Total"}},
-    {"12", {{16, 2}, {0, 1}, {20, 2}, {0, 3}, {16, 1}}, {3, 2, 0, 0, 3, 4}, {"2 ~2~ (3) 1", "2 ~2~ - 1", "2 ~5~* 1", "2-2 (3) 1", "2-2-1", "5*-1", "5 Total"}},
+    {"1", {{0, 0}}, {0, 0, 0, 0, 0, 0}, 0, {"", "", "", NONE, NONE, NONE, NONE}},
+    {"2", {{15, 1}}, {0, 0, 0, 0, 0, 0}, 0, {"", "", "", NONE, NONE, NONE, NONE}},
+    {"3", {{16, 1}}, {1, 0, 0, 0, 0, 0}, 10000, {"1", "1", "1", "1", "1", "1", "1 Total"}},
+    {"4", {{19, 1}, {20, 1}}, {1, 1, 0, 0, 0, 0}, 10000, {"1 ~1~", "1 ~1~", "1 ~1~", "2", "2", "2", "2 Total"}},
+    {"5", {{16, 1}, {0, 1}, {16, 1}}, {2, 0, 0, 0, 0, 1}, 6666, {"1 1", "3*", "3*", "1-1", "1-1", "3*", "2 Total"}},
+    {"6", {{16, 1}, {0, 4}, {16, 1}}, {2, 0, 0, 0, 4, 4}, 3333, {"1 (4) 1", "1 - 1", "6*", "1 (4) 1", "1-1", "1-1", "2 Total"}},
+    {"7", {{16, 1}, {0, 5}, {16, 1}}, {2, 0, 0, 0, 5, 5}, 2857, {"1 (5) 1", "1 / 1", "1 / 1", "1 (5) 1", "1/1", "1/1", "2 Total"}},
+    {"8", {{16, 1}, {0, 32}, {16, 1}}, {2, 0, 0, 0, 32, 32}, 588, {"1 (32) 1", "1 / 1", "1 / 1", "1 (32) 1", "1 | 1", "1 | 1", "2 Total"}},
+    {"9", {{16, 1}, {0, 33}, {16, 1}}, {2, 0, 0, 0, 33, 33}, 571, {"1 (33) 1", "1 | 1", "1 | 1", "1 (33) 1", "1 | 1", "1 | 1", "2 Total"}},
+    {"10", {{32, 1}, {0, 2}, {16, 1}}, {1, 0, 0, 1, 2, 2}, 5000, {"=1= (2) 1", "=1= - 1", "=3=* 1", "1 (2) 1", "1-1", "1-1", "2 Total"}},
+    {"11", {{0, 2}, {16, 1}}, {1, 0, 0, 0, 2, 0}, 10000, {"1", "1", "1", "1", "1", "1", "1 Total"}},
+    {"11, 1 q", {{0, 1}, {16, 1}}, {1, 0, 0, 0, 0, 0}, 10000, {"1", "1", "1", "1", "1", "1", "1 Total"}},
+    {"12", {{16, 2}, {0, 1}, {20, 2}, {0, 3}, {16, 1}}, {3, 2, 0, 0, 3, 4}, 5555,
+     {"2 ~2~ (3) 1", "2 ~2~ - 1", "2 ~5~* 1", "2-2 (3) 1", "2-2-1", "5*-1", "5 Total"}},
 };
 
 enum { CHARTS = sizeof charts / sizeof charts[0] };
@@ -246,27 +248,25 @@ static void test_counts(const struct chart *chart)
     expect(r.refused == PV_ACCEPTED && same_counts(r.counts, chart->counts), "counts");
 }
 
-/* The share that is due, also behind `lead` breaks and before `tail` of them. */
-static void expect_share(uint32_t number, uint32_t share, size_t lead, size_t tail)
+/* The chart's share, with so many breaks before it and behind it. */
+static void expect_share(const struct chart *chart, size_t before, size_t behind)
 {
     static uint32_t longer[MOST];
-    for (size_t i = 0; i < lead + m_length + tail; i++)
-        longer[i] = i >= lead && i < lead + m_length ? m[i - lead] : 15;
-    pv_share_answer s = pv_share(longer, lead + m_length + tail);
-    expect(s.refused == number && s.share == share, "share");
+    size_t end = before + m_length;
+    for (size_t i = 0; i < end + behind; i++)
+        longer[i] = i >= before && i < end ? m[i - before] : 15;
+    pv_share_answer s = pv_share(longer, end + behind);
+    uint32_t number = chart->share == 0 ? PV_NO_STREAM_MEASURE : PV_ACCEPTED;
+    expect(s.refused == number && s.share == chart->share, "share");
 }
 
 static void test_share(const struct chart *chart)
 {
-    const pv_counts *c = &chart->counts;
-    uint32_t streams = c->run16_streams + c->run20_streams + c->run24_streams + c->run32_streams;
-    uint32_t number = streams == 0 ? PV_NO_STREAM_MEASURE : PV_ACCEPTED;
-    uint32_t share = streams == 0 ? 0 : 10000 * streams / (streams + c->sn_breaks);
-    expect(strcmp(chart->name, "12") != 0 || share == 5555, "the share of case 12");
-    for (size_t ends = 0; ends < 4; ends++) {
-        expect_share(number, share, ends, 0);
-        expect_share(number, share, 0, ends);
-        expect_share(number, share, ends, 100 * ends);
+    expect_share(chart, 0, 0);
+    for (size_t breaks = 1; breaks < 4; breaks++) {
+        expect_share(chart, breaks, 0);
+        expect_share(chart, 0, breaks);
+        expect_share(chart, breaks, 100 * breaks);
     }
 }
 
