@@ -11,12 +11,12 @@ pub struct ShareAnswer {
     pub share: u32,
 }
 
-// part of all in parts of 10,000, rounded down. 10,000 x part does not fit a u32.
-fn ten_thousandths(part: u32, all: u32) -> u64
+// 10,000 x n divided by all, rounded down. 10,000 x n does not fit a u32.
+fn ten_thousandths(n: u32, all: u32) -> u64
     requires { ⌜ 0 < all ⌝ }
-    ensures { λ r. ⌜ r ≡ (10000 * part) / all ⌝ }
+    ensures { λ r. ⌜ r ≡ (10000 * n) / all ⌝ }
 {
-    10000 * (part as u64) / (all as u64)
+    10000 * (n as u64) / (all as u64)
 }
 
 // Share: 10,000 x s divided by (s + sn_breaks), rounded down, s the stream measures; at most 10,000.
