@@ -1,15 +1,16 @@
-//! The proved pass beside the unchanged Rust: first that both answer the same, then how long each takes. Note rows: `rows`.
+//! The proved pass beside the unchanged Rust: first that both answer the same, then how long each takes. Numbers: `numbers`. Note rows: `rows`.
 mod loads;
 #[allow(dead_code)]
 #[path = "../../judge/src/math.rs"]
 mod math;
+mod numbers;
 mod ours;
 #[path = "../../rust/compare/src/plain_rows.rs"]
 mod plain_rows;
 mod rows;
 #[path = "../../judge/src/streams.rs"]
 mod streams;
-use ours::{Counts, Lent};
+use ours::{Counts, Lent, Library, LIBRARIES};
 use std::hint::black_box;
 use std::time::Instant;
 use streams::{RunDensity, Token};
@@ -24,7 +25,7 @@ fn parts(t: &Token) -> (u8, u32) {
     }
 }
 
-/// Both on one chart, with slices just long enough and with roomy ones, whose left-over places must stay as they were.
+/// All on one chart, with slices just long enough and with roomy ones, whose left-over places must stay as they were.
 /// The number of tokens and of bytes.
 fn same(m: &[u32]) -> (usize, usize) {
     let wide: Vec<usize> = m.iter().map(|&d| d as usize).collect();
@@ -41,16 +42,18 @@ fn same(m: &[u32]) -> (usize, usize) {
     let texts = [sn.0, sn.1, sn.2, standard.0, standard.1, standard.2];
     let text = texts.concat();
     let (k, bytes) = (tokens.len(), text.len());
-    for mut lent in [Lent::new(k, bytes), Lent::roomy(m.len())] {
-        let r = ours::pass(m, &mut lent);
-        assert_eq!((r.refused, r.counts, r.tokens), (0, counts, k));
-        assert!(texts.iter().map(String::len).eq(r.lengths));
-        assert!(&lent.out[..bytes] == text.as_bytes());
-        assert!(lent.out[bytes..].iter().all(|&b| b == 0xAA));
-        let pairs = lent.classes.iter().copied().zip(lent.lengths.iter().copied());
-        assert!(tokens.iter().map(parts).eq(pairs.take(k)));
-        assert!(lent.classes[k..].iter().all(|&c| c == 0xAA));
-        assert!(lent.lengths[k..].iter().all(|&n| n == 0xAAAA));
+    for library in LIBRARIES {
+        for mut lent in [Lent::new(k, bytes), Lent::roomy(m.len())] {
+            let r = library.pass(m, &mut lent);
+            assert_eq!((r.refused, r.counts, r.tokens), (0, counts, k));
+            assert!(texts.iter().map(String::len).eq(r.lengths));
+            assert!(&lent.out[..bytes] == text.as_bytes());
+            assert!(lent.out[bytes..].iter().all(|&b| b == 0xAA));
+            let pairs = lent.classes.iter().copied().zip(lent.lengths.iter().copied());
+            assert!(tokens.iter().map(parts).eq(pairs.take(k)));
+            assert!(lent.classes[k..].iter().all(|&c| c == 0xAA));
+            assert!(lent.lengths[k..].iter().all(|&n| n == 0xAAAA));
+        }
     }
     (k, bytes)
 }
@@ -74,7 +77,7 @@ fn same_on_all() -> usize {
 }
 
 /// ns of each: all take turns, and the best and the median of the rounds are given.
-fn times(works: &mut [Box<dyn FnMut() + '_>]) -> Vec<(f64, f64)> {
+fn times(works: &mut [Work]) -> Vec<(f64, f64)> {
     let rounds = 41;
     let reps: Vec<u64> = works
         .iter_mut()
@@ -103,63 +106,85 @@ fn times(works: &mut [Box<dyn FnMut() + '_>]) -> Vec<(f64, f64)> {
         .collect()
 }
 
-/// Charts of one length, one after the other.
+/// The cells of a row: the Rust's time, and then each of the others' and how often it goes into the Rust's. The best, and the median in parentheses.
+fn cells(t: &[(f64, f64)], shown: impl Fn(f64) -> f64) -> String {
+    let rust = t[0];
+    let mut cells = format!("{:.2} ({:.2}) |", shown(rust.0), shown(rust.1));
+    for ours in &t[1..] {
+        cells += &format!(" {:.2} ({:.2}) | **{:.2}** ({:.2}) |", shown(ours.0), shown(ours.1), rust.0 / ours.0, rust.1 / ours.1);
+    }
+    cells
+}
+
+/// The head of a table: what stands before the Rust's time, and what each of the others' is called.
+fn head(first: &[&str], others: &[String]) {
+    let mut head = format!("| {} | Rust |", first.join(" | "));
+    for other in others {
+        head += &format!(" {other} | faster |");
+    }
+    println!("{head}\n|{}", "---|".repeat(first.len() + 1 + 2 * others.len()));
+}
+
+type Work<'a> = Box<dyn FnMut() + 'a>;
+
+/// The charts one after the other, with roomy slices and with tight ones.
+fn works<'a>(library: &'a Library, charts: &'a [Vec<u32>], due: &[(usize, usize)]) -> [Work<'a>; 2] {
+    let mut roomy = Lent::roomy(charts[0].len());
+    let mut tight: Vec<Lent> = due.iter().map(|&(tokens, bytes)| Lent::new(tokens, bytes)).collect();
+    [
+        Box::new(move || {
+            for m in charts {
+                black_box(library.pass(black_box(m), &mut roomy));
+            }
+        }),
+        Box::new(move || {
+            for (m, lent) in charts.iter().zip(&mut tight) {
+                black_box(library.pass(black_box(m), lent));
+            }
+        }),
+    ]
+}
+
+/// Charts of one length.
 fn row(name: &str, charts: &[Vec<u32>]) {
     let due: Vec<(usize, usize)> = charts.iter().map(|m| same(m)).collect();
     let wide: Vec<Vec<usize>> = charts.iter().map(|m| m.iter().map(|&d| d as usize).collect()).collect();
     let mut scratch = Vec::new();
-    let mut roomy = Lent::roomy(charts[0].len());
-    let mut tight: Vec<Lent> = due.iter().map(|&(tokens, bytes)| Lent::new(tokens, bytes)).collect();
-    let t = times(&mut [
-        Box::new(|| {
-            for m in &wide {
-                black_box(streams::compute_stream_outputs_with_scratch(black_box(m), &mut scratch));
-            }
-        }),
-        Box::new(|| {
-            for m in charts {
-                black_box(ours::pass(black_box(m), &mut roomy));
-            }
-        }),
-        Box::new(|| {
-            for (m, lent) in charts.iter().zip(&mut tight) {
-                black_box(ours::pass(black_box(m), lent));
-            }
-        }),
-    ]);
+    let mut all: Vec<Work> = vec![Box::new(|| {
+        for m in &wide {
+            black_box(streams::compute_stream_outputs_with_scratch(black_box(m), &mut scratch));
+        }
+    })];
+    for library in LIBRARIES {
+        all.extend(works(library, charts, &due));
+    }
     let tokens: usize = due.iter().map(|d| d.0).sum();
     let measures: usize = charts.iter().map(Vec::len).sum();
-    let ns = |x: f64| x / measures as f64;
-    let (rust, roomy, tight) = (t[0], t[1], t[2]);
-    println!(
-        "| {name} | {tokens} | {:.2} ({:.2}) | {:.2} ({:.2}) | **{:.2}** ({:.2}) | {:.2} ({:.2}) | **{:.2}** ({:.2}) |",
-        ns(rust.0), ns(rust.1),
-        ns(roomy.0), ns(roomy.1), rust.0 / roomy.0, rust.1 / roomy.1,
-        ns(tight.0), ns(tight.1), rust.0 / tight.0, rust.1 / tight.1,
-    );
+    println!("| {name} | {tokens} | {}", cells(&times(&mut all), |ns| ns / measures as f64));
 }
 
 /// The charts whose name has the word.
 fn table(only: &str) {
     println!("The same tokens, counts and texts on {} charts and on those below.\n", same_on_all());
     println!("ns per measure, best (median) of the rounds; times faster than the Rust.\n");
-    println!("| chart | tokens | Rust | roomy slices | faster | tight slices | faster |");
-    println!("|---|---|---|---|---|---|---|");
+    let slices = |library: &Library| ["roomy", "tight"].map(|slices| format!("{}, {slices} slices", library.name));
+    head(&["chart", "tokens"], &LIBRARIES.iter().flat_map(slices).collect::<Vec<_>>());
     for (name, charts) in loads::all() {
         if name.contains(only) {
             row(name, &charts);
         }
     }
+    println!();
 }
 
-/// With an argument, only the charts whose name has it, or only the note rows: "rows".
+/// With an argument, only the charts whose name has it, only the numbers ("numbers") or only the note rows ("rows").
 fn main() {
     let only = std::env::args().nth(1).unwrap_or_default();
-    if only != "rows" {
+    if only != "rows" && only != "numbers" {
         table(&only);
     }
-    if only.is_empty() {
-        println!();
+    if only.is_empty() || only == "numbers" {
+        numbers::table();
     }
     if only.is_empty() || only == "rows" {
         rows::table();

@@ -1,4 +1,11 @@
 //! The proved calls. A slice is passed as pointer and length.
+
+#[repr(C)]
+pub struct Written {
+    pub refused: u32,
+    pub length: usize,
+}
+
 #[repr(C)]
 #[derive(Clone, Copy, Debug, PartialEq)]
 pub struct Counts {
@@ -25,17 +32,29 @@ pub struct RowsAnswer {
 }
 
 // The sixth register would hold the second half of `lengths`, and Rust's pair starts behind it: so the slices are passed part by part.
+macro_rules! calls {
+    ($push_u64:ident, $pass:ident) => {
+        extern "C" {
+            fn $push_u64(out: *mut u8, out_len: usize, n: u64) -> Written;
+            fn $pass(
+                m: *const u32,
+                m_len: usize,
+                classes: *mut u8,
+                classes_len: usize,
+                lengths: *mut u32,
+                lengths_len: usize,
+                out: *mut u8,
+                out_len: usize,
+            ) -> Answer;
+        }
+    };
+}
+
+calls!(pv_push_u64, pv_compute_stream_outputs);
+#[cfg(before)]
+calls!(before_pv_push_u64, before_pv_compute_stream_outputs);
+
 extern "C" {
-    fn pv_compute_stream_outputs(
-        m: *const u32,
-        m_len: usize,
-        classes: *mut u8,
-        classes_len: usize,
-        lengths: *mut u32,
-        lengths_len: usize,
-        out: *mut u8,
-        out_len: usize,
-    ) -> Answer;
     fn pv_read_note_rows(text: *const u8, text_len: usize, densities: *mut u32, densities_len: usize) -> RowsAnswer;
 }
 
@@ -61,19 +80,47 @@ impl Lent {
     }
 }
 
-pub fn pass(m: &[u32], lent: &mut Lent) -> Answer {
-    let Lent { classes, lengths, out } = lent;
-    unsafe {
-        pv_compute_stream_outputs(
-            m.as_ptr(),
-            m.len(),
-            classes.as_mut_ptr(),
-            classes.len(),
-            lengths.as_mut_ptr(),
-            lengths.len(),
-            out.as_mut_ptr(),
-            out.len(),
-        )
+/// The calls of one build of the library.
+pub struct Library {
+    pub name: &'static str,
+    push_u64: unsafe extern "C" fn(*mut u8, usize, u64) -> Written,
+    pass: unsafe extern "C" fn(*const u32, usize, *mut u8, usize, *mut u32, usize, *mut u8, usize) -> Answer,
+}
+
+/// That of the commit that `run.sh --before` names, if it does, and this one.
+pub const LIBRARIES: &[Library] = &[
+    #[cfg(before)]
+    Library {
+        name: "before",
+        push_u64: before_pv_push_u64,
+        pass: before_pv_compute_stream_outputs,
+    },
+    Library {
+        name: "ours",
+        push_u64: pv_push_u64,
+        pass: pv_compute_stream_outputs,
+    },
+];
+
+impl Library {
+    pub fn push_u64(&self, out: &mut [u8], n: u64) -> Written {
+        unsafe { (self.push_u64)(out.as_mut_ptr(), out.len(), n) }
+    }
+
+    pub fn pass(&self, m: &[u32], lent: &mut Lent) -> Answer {
+        let Lent { classes, lengths, out } = lent;
+        unsafe {
+            (self.pass)(
+                m.as_ptr(),
+                m.len(),
+                classes.as_mut_ptr(),
+                classes.len(),
+                lengths.as_mut_ptr(),
+                lengths.len(),
+                out.as_mut_ptr(),
+                out.len(),
+            )
+        }
     }
 }
 

@@ -1,6 +1,6 @@
 //! The proved reader of note rows beside the plain Rust: first that both answer the same, then how long each takes.
 use crate::loads::lcg;
-use crate::{ours, plain_rows, times};
+use crate::{cells, head, ours, plain_rows, times};
 use std::hint::black_box;
 
 /// A number below `bound`, which is at most 256.
@@ -99,20 +99,13 @@ fn line(name: &str, texts: &[Vec<u8>]) {
         }),
     ]);
     let bytes: usize = texts.iter().map(Vec::len).sum();
-    let speed = |ns: f64| bytes as f64 / ns;
-    let (rust, ours) = (t[0], t[1]);
-    println!(
-        "| {name} | {bytes} | {measures} | {:.2} ({:.2}) | {:.2} ({:.2}) | **{:.2}** ({:.2}) |",
-        speed(rust.0), speed(rust.1),
-        speed(ours.0), speed(ours.1), rust.0 / ours.0, rust.1 / ours.1,
-    );
+    println!("| {name} | {bytes} | {measures} | {}", cells(&t, |ns| bytes as f64 / ns));
 }
 
 pub fn table() {
     println!("The same densities and refusals on {} texts of note rows and on those below.\n", same_on_all());
     println!("Bytes a ns, best (median) of the rounds; times faster than the Rust.\n");
-    println!("| text | bytes | measures | Rust | ours | faster |");
-    println!("|---|---|---|---|---|---|");
+    head(&["text", "bytes", "measures"], &["ours".into()]);
     for (name, texts) in all() {
         line(name, &texts);
     }

@@ -65,14 +65,6 @@ module _ {old : List ℕ} {k : ℕ} where
   pub stored : (b : ℕ) → k < length old → Grown old (set old k b) k (b ∷ []) (k + 1)
   stored b h = record { next = refl; front = rw add-one (take-suc-set old k b h); long = length-set old k b }
 
--- two bytes
-pub stored-two : {old : List ℕ} {k : ℕ} (a b : ℕ) → k + 2 ≤ length old → Grown old (set (set old k a) (k + 1) b) k (a ∷ b ∷ []) (k + 2)
-stored-two {old} {k} a b h =
-    let g : Grown old (set (set old k a) (k + 1) b) k (a ∷ b ∷ []) (k + 1 + 1) =
-    grown (a ∷ []) (b ∷ []) (stored a (omega arith)) (stored b (omega (arith, length-set old k a))) in
-    let e : k + 1 + 1 ≡ k + 2 = omega arith in
-    rw e at g
-
 -- a number digit by digit: room for the digits before the last, and then the last
 module _ {old : List ℕ} {k : ℕ} (n : ℕ) (h : 10 ≤ n) (f : Room old k (digits n)) where
   pub front-room : Room old k (digits (n / 10))

@@ -1,9 +1,10 @@
 pub mod Split
 pub mod Questions
 pub mod Each
-pub mod Table
 pub mod Digits
+pub mod Four
 pub mod Read
+pub mod Backward
 pub mod Push
 pub mod Place
 pub mod Grown

@@ -8,15 +8,15 @@ use mathlib.Core.List.{List, [], _∷_, _++_}
 use native.Mathlib.Numerals.{add-one}
 use native.Mathlib.Omega.{arith}
 use lib.Dec.{eqb}
-use lib.ListN.{length, take, set, length-set}
-use lib.Seq.{length-take-le, take-append-le}
+use lib.ListN.{length, set}
+use lib.Seq.{sets, length-take-le, take-append-le}
 use borrow.Author.Tests.{eqb-true, eqb-false}
 use Rattle.number.specs.Digits.{digits}
 use Rattle.number.specs.Grown.{Grown}
-use Rattle.number.specs.Word.{byteText, wordText, Word}
+use Rattle.number.specs.Word.{byteText, wordText, wordBytes, Word}
 use Rattle.number.proofs.Split.{split}
 use Rattle.number.proofs.Digits.{digits-one, digits-more}
-use Rattle.number.proofs.Grown.{grown, kept, stored-two}
+use Rattle.number.proofs.Grown.{wrote-grown, kept}
 
 pub byte-text : (b : ℕ) → b ≢ 0 → byteText b ≡ b ∷ []
 byte-text zero h = absurd (h refl)
@@ -46,17 +46,21 @@ byte-before b w l z s =
       short = omega arith;
     }
 
--- three bytes of which the first l are kept, and one behind them
-pub stored-first : {old : List ℕ} {k : ℕ} (l a b c d : ℕ) → k + 4 ≤ length old → l ≤ 3
-    → Grown old (set (set (set (set old k a) (k + 1) b) (k + 2) c) (k + 3) d) k (take l (a ∷ b ∷ c ∷ [])) (k + l)
-stored-first {old} {k} l a b c d h s =
-    let two = set (set old k a) (k + 1) b in
-    let e : k + 2 + 1 ≡ k + 3 = omega arith in
-    let z : length two ≡ length old = length-set (set old k a) (k + 1) b ∙ length-set old k a in
-    let more : Grown two (set (set two (k + 2) c) (k + 3) d) (k + 2) (c ∷ d ∷ []) (k + 2 + 2) =
-    rw e at (stored-two {old = two} {k = k + 2} c d (omega (arith, z))) in
-    let g = kept {old = old} {k = k} l (a ∷ b ∷ c ∷ d ∷ []) (omega arith) (omega arith) (grown (a ∷ b ∷ []) (c ∷ d ∷ []) (stored-two a b (omega arith)) more) in
-    rw (take-append-le l (a ∷ b ∷ c ∷ []) (d ∷ []) s) at g
+-- the four stores of a word
+pub word-stored : (old : List ℕ) (k w : ℕ)
+    → set (set (set (set old k (w % 256)) (k + 1) (w / 256 % 256)) (k + 2) (w / 65536 % 256)) (k + 3) (w / 16777216) ≡ sets old k (wordBytes w)
+word-stored old k w =
+    let two : k + 2 ≡ suc (suc k) = omega arith in
+    let three : k + 3 ≡ suc (suc (suc k)) = omega arith in
+    rw (add-one, two, three) refl
+
+-- of the four bytes those are kept that count
+pub word-kept : {old new : List ℕ} {k : ℕ} (w : ℕ) → k + 4 ≤ length old → w / 16777216 ≤ 3 → new ≡ sets old k (wordBytes w)
+    → Grown old new k (wordText w) (k + w / 16777216)
+word-kept {old} {new} {k} w h s e =
+    let l = w / 16777216 in
+    let four = wrote-grown {old = old} {k = k} (wordBytes w) {new = new} {r = k + 4} (record { fits = h }) (record { next = refl; bytes = e }) in
+    rw (take-append-le l (w % 256 ∷ w / 256 % 256 ∷ w / 65536 % 256 ∷ []) (l ∷ []) s) at (kept l (wordBytes w) (omega arith) (omega arith) four)
 
 -- a word's text
 pub worded : {old new : List ℕ} {k r : ℕ} {xs : List ℕ} {w : ℕ} → Word xs w → Grown old new k (wordText w) r → Grown old new k xs r

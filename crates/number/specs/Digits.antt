@@ -15,3 +15,8 @@ digitsIn (suc k) n =
 -- Number writer: base ten, no leading zero, 0 as "0" (n has at most n + 1 digits)
 unfoldable pub digits : ℕ → List ℕ
 digits n = digitsIn n n
+
+-- the last j digits of n, with zeros before it where it has fewer
+abbrev pub lastDigits : ℕ → ℕ → List ℕ
+lastDigits zero n = []
+lastDigits (suc j) n = lastDigits j (n / 10) ++ ((48 + n % 10) ∷ [])

@@ -15,6 +15,10 @@ byteText (suc b) = suc b ∷ []
 abbrev pub wordText : ℕ → List ℕ
 wordText w = take (w / 16777216) (w % 256 ∷ (w / 256 % 256 ∷ (w / 65536 % 256 ∷ [])))
 
+-- all four bytes of a word
+abbrev pub wordBytes : ℕ → List ℕ
+wordBytes w = w % 256 ∷ w / 256 % 256 ∷ w / 65536 % 256 ∷ w / 16777216 ∷ []
+
 -- w is a word of the text xs
 pub record Word (xs : List ℕ) (w : ℕ) : Type 0 where
   pub text : wordText w ≡ xs

@@ -1,4 +1,5 @@
 // A word or a number in a buffer of the caller's own: what stands in it from the next place on is not kept.
+use crate::words::store_word;
 ghost use Prim.Native.Nat.{_+_, _/_, _≤_};
 ghost use lib.ListN.{length};
 ghost use Rattle.number.specs.Digits.{digits};
@@ -6,15 +7,12 @@ ghost use Rattle.number.specs.Grown.{Grown};
 ghost use Rattle.number.specs.Place.{Room};
 ghost use Rattle.number.specs.Word.{wordText, Numbers};
 
-// The text of a word. All four bytes are stored, so that it is one store.
+// The text of a word.
 pub fn add_word(buf: &mut [u8], k: usize, w: u32) -> usize
     requires { ⌜ (k + 4 ≤ length (now buf)) × (w / 16777216 ≤ 3) ⌝ }
     ensures { λ r. ⌜ Grown (now (buf .entry)) (now (buf .exit)) k (wordText w) r ⌝ }
 {
-    buf[k] = (w % 256) as u8;
-    buf[k + 1] = (w / 256 % 256) as u8;
-    buf[k + 2] = (w / 65536 % 256) as u8;
-    buf[k + 3] = (w / 16777216) as u8;
+    store_word(buf, k, w);
     k + (w / 16777216) as usize
 }
 

@@ -6,8 +6,20 @@ ghost use mathlib.Core.Bool.{cond};
 ghost use mathlib.Core.List.{_++_};
 ghost use lib.Dec.{eqb};
 ghost use lib.ListN.{length};
+ghost use lib.Seq.{sets};
 ghost use Rattle.number.specs.PlacesSet.{PlacesSet};
-ghost use Rattle.number.specs.Word.{byteText, wordText, Word, numberWord};
+ghost use Rattle.number.specs.Word.{byteText, wordText, wordBytes, Word, numberWord};
+
+// The bytes of a word at the place `k`. All four are stored, so that it is one store.
+pub fn store_word(buf: &mut [u8], k: usize, w: u32)
+    requires { ⌜ k + 4 ≤ length (now buf) ⌝ }
+    ensures { λ _. ⌜ now (buf .exit) ≡ sets (now (buf .entry)) k (wordBytes w) ⌝ }
+{
+    buf[k] = (w % 256) as u8;
+    buf[k + 1] = (w / 256 % 256) as u8;
+    buf[k + 2] = (w / 65536 % 256) as u8;
+    buf[k + 3] = (w / 16777216) as u8;
+}
 
 // The word of the byte `b`, or of nothing if it is 0, and then of the text of `w`.
 pub fn word_before(b: u8, w: u32) -> u32

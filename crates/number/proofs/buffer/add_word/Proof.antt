@@ -1,45 +1,12 @@
 -- `number::buffer::add_word` meets its contract.
 -- Assumes nothing.
-use Prim.Native.Nat.{_/_, _%_}
-use native.Mathlib.Omega.{arith}
-use lib.ListN.{length-set}
-use Rattle.number.proofs.Word.{stored-first}
 use borrow.Author.Needs.{needs}
+use Rattle.number.proofs.Word.{word-kept}
 use Rattle.number.proofs.buffer.add_word.Statement.{statement}
 use Rattle.number.proofs.buffer.add_word.Tie as tie
 
-cast-buf : tie.Need-cast-buf
-cast-buf c = search needs
-
-slice-write-buf : tie.Need-slice-write-buf
-slice-write-buf c = search needs
-
-cast-buf-2 : tie.Need-cast-buf-2
-cast-buf-2 c = search needs
-
-add-buf : tie.Need-add-buf
-add-buf c = search needs
-
-slice-write-buf-2 : tie.Need-slice-write-buf-2
-slice-write-buf-2 c = rw length-set (omega (arith, c .pre .0))
-
-cast-buf-3 : tie.Need-cast-buf-3
-cast-buf-3 c = search needs
-
-add-buf-2 : tie.Need-add-buf-2
-add-buf-2 c = search needs
-
-slice-write-buf-3 : tie.Need-slice-write-buf-3
-slice-write-buf-3 c = rw (length-set, length-set) (omega (arith, c .pre .0))
-
-cast-buf-4 : tie.Need-cast-buf-4
-cast-buf-4 c = search needs
-
-add-buf-3 : tie.Need-add-buf-3
-add-buf-3 c = search needs
-
-slice-write-buf-4 : tie.Need-slice-write-buf-4
-slice-write-buf-4 c = rw (length-set, length-set, length-set) (omega (arith, c .pre .0))
+store-word-requires : tie.Need-store-word-requires
+store-word-requires c κs = search needs
 
 cast-result : tie.Need-cast-result
 cast-result c = search needs
@@ -51,24 +18,9 @@ same-length : tie.Need-same-length
 same-length c = search needs
 
 returns : tie.Need-returns
-returns c = let w = c .args .w in stored-first (w / 16777216) (w % 256) (w / 256 % 256) (w / 65536 % 256) (w / 16777216) (c .pre .0) (c .pre .1)
+returns c =
+    let s = c .before .before .before .before .before in
+    word-kept (s .args .w) (s .pre .0) (s .pre .1) (c .before .before .store-word .ensures)
 
 pub add-word-spec : {M : Type 1} → statement M
-add-word-spec =
-    tie.close
-    (tie.spec
-    cast-buf
-    slice-write-buf
-    cast-buf-2
-    add-buf
-    slice-write-buf-2
-    cast-buf-3
-    add-buf-2
-    slice-write-buf-3
-    cast-buf-4
-    add-buf-3
-    slice-write-buf-4
-    cast-result
-    add-result
-    same-length
-    returns)
+add-word-spec = tie.close (tie.spec store-word-requires cast-result add-result same-length returns)
