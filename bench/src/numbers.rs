@@ -51,10 +51,7 @@ fn row(digits: u32) {
     for library in LIBRARIES {
         let mut out = vec![0; bytes];
         all.push(Box::new(move || {
-            let mut at = 0;
-            for &n in numbers {
-                at += library.push_u64(&mut out[at..], n).length;
-            }
+            library.push_all(numbers, &mut out);
             black_box(&out);
         }));
     }

@@ -31,9 +31,19 @@ pub struct RowsAnswer {
     pub measures: usize,
 }
 
+/// The calls of one build of the library.
+pub struct Library {
+    pub name: &'static str,
+    push_u64: unsafe extern "C" fn(*mut u8, usize, u64) -> Written,
+    push_all: fn(&[u64], &mut [u8]),
+    pass: unsafe extern "C" fn(*const u32, usize, *mut u8, usize, *mut u32, usize, *mut u8, usize) -> Answer,
+}
+
 // The sixth register would hold the second half of `lengths`, and Rust's pair starts behind it: so the slices are passed part by part.
-macro_rules! calls {
-    ($push_u64:ident, $pass:ident) => {
+// In `push_all` each library has a loop of its own, which calls by name: of one loop that calls them all by address the processor predicts
+// the first best.
+macro_rules! library {
+    ($library:ident, $name:literal, $push_u64:ident, $pass:ident) => {
         extern "C" {
             fn $push_u64(out: *mut u8, out_len: usize, n: u64) -> Written;
             fn $pass(
@@ -47,12 +57,32 @@ macro_rules! calls {
                 out_len: usize,
             ) -> Answer;
         }
+
+        const $library: Library = Library {
+            name: $name,
+            push_u64: $push_u64,
+            push_all: |numbers, out| {
+                let mut at = 0;
+                for &n in numbers {
+                    let rest = &mut out[at..];
+                    at += unsafe { $push_u64(rest.as_mut_ptr(), rest.len(), n) }.length;
+                }
+            },
+            pass: $pass,
+        };
     };
 }
 
-calls!(pv_push_u64, pv_compute_stream_outputs);
+library!(OURS, "ours", pv_push_u64, pv_compute_stream_outputs);
 #[cfg(before)]
-calls!(before_pv_push_u64, before_pv_compute_stream_outputs);
+library!(BEFORE, "before", before_pv_push_u64, before_pv_compute_stream_outputs);
+
+/// That of the commit that `run.sh --before` names, if it does, and this one.
+pub const LIBRARIES: &[Library] = &[
+    #[cfg(before)]
+    BEFORE,
+    OURS,
+];
 
 extern "C" {
     fn pv_read_note_rows(text: *const u8, text_len: usize, densities: *mut u32, densities_len: usize) -> RowsAnswer;
@@ -80,31 +110,14 @@ impl Lent {
     }
 }
 
-/// The calls of one build of the library.
-pub struct Library {
-    pub name: &'static str,
-    push_u64: unsafe extern "C" fn(*mut u8, usize, u64) -> Written,
-    pass: unsafe extern "C" fn(*const u32, usize, *mut u8, usize, *mut u32, usize, *mut u8, usize) -> Answer,
-}
-
-/// That of the commit that `run.sh --before` names, if it does, and this one.
-pub const LIBRARIES: &[Library] = &[
-    #[cfg(before)]
-    Library {
-        name: "before",
-        push_u64: before_pv_push_u64,
-        pass: before_pv_compute_stream_outputs,
-    },
-    Library {
-        name: "ours",
-        push_u64: pv_push_u64,
-        pass: pv_compute_stream_outputs,
-    },
-];
-
 impl Library {
     pub fn push_u64(&self, out: &mut [u8], n: u64) -> Written {
         unsafe { (self.push_u64)(out.as_mut_ptr(), out.len(), n) }
+    }
+
+    /// The numbers one behind the other.
+    pub fn push_all(&self, numbers: &[u64], out: &mut [u8]) {
+        (self.push_all)(numbers, out);
     }
 
     pub fn pass(&self, m: &[u32], lent: &mut Lent) -> Answer {

@@ -18,20 +18,34 @@ pub struct Written {
     pub length: usize,
 }
 
-// How many digits `n` has: dividing by ten takes one away, and a number below ten has one.
+// How many digits `n` has: dividing by ten takes one away, and a number below ten has one. The turns are at most 19 and the compiler makes a
+// comparison of each, so that callers which measure texts have no loop inside their own.
 fn count_by_ten(n: u64) -> usize
     ensures { λ r. ⌜ DigitCount n r ⌝ }
 {
     let mut k: usize = 1;
     let mut rest = n;
-    while rest >= 10 {
+    while k < 20 {
+        if rest < 10 {
+            return k;
+        }
         rest /= 10;
         k += 1;
     }
-    k
+    20
 }
 
-// The same; while there are more than four, by four divisions at a time, of which the compiler makes one.
+// The same. Below 100, as most numbers of a text are, nothing is divided.
+pub fn digit_count(n: u64) -> usize
+    ensures { λ r. ⌜ DigitCount n r ⌝ }
+{
+    if n >= 100 {
+        return count_by_ten(n);
+    }
+    if n < 10 { 1 } else { 2 }
+}
+
+// The same, sooner for long numbers: while there are more than four digits, by four divisions at a time, of which the compiler makes one.
 fn count_by_fours(n: u64) -> usize
     ensures { λ r. ⌜ DigitCount n r ⌝ }
 {
@@ -41,17 +55,7 @@ fn count_by_fours(n: u64) -> usize
         rest = rest / 10 / 10 / 10 / 10;
         k += 4;
     }
-    k + count_by_ten(rest)
-}
-
-// How many digits `n` has. Below 100, as most numbers of a text are, nothing is divided.
-pub fn digit_count(n: u64) -> usize
-    ensures { λ r. ⌜ DigitCount n r ⌝ }
-{
-    if n >= 100 {
-        return count_by_fours(n);
-    }
-    if n < 10 { 1 } else { 2 }
+    k + digit_count(rest)
 }
 
 // The last four digits of `n` as the bytes of a word, the first one lowest. First two pairs of digits stand in its halves, and the tens of both are found
@@ -115,7 +119,7 @@ pub fn push_u64(out: &mut [u8], n: u64) -> Written
             length: 1,
         };
     }
-    let length = digit_count(n);
+    let length = count_by_fours(n);
     if out.len() < length {
         return Written {
             refused: 4,

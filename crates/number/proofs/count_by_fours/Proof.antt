@@ -28,8 +28,8 @@ loop-less c = omega arith
 loop-again : tie.Need-loop-again Inv-loop μ-loop
 loop-again c = (omega (arith, length-without 4 (c .before .loop .rest) (omega arith)), c .before .loop .inv .1)
 
-count-by-ten-requires : tie.Need-count-by-ten-requires Inv-loop μ-loop
-count-by-ten-requires c κs = search needs
+digit-count-requires : tie.Need-digit-count-requires Inv-loop μ-loop
+digit-count-requires c κs = search needs
 
 add-result : tie.Need-add-result Inv-loop μ-loop
 add-result c = omega arith
@@ -47,6 +47,6 @@ count-by-fours-spec =
     add-k
     loop-less
     loop-again
-    count-by-ten-requires
+    digit-count-requires
     add-result
     returns)

@@ -1,11 +1,11 @@
--- `number::count_by_ten` meets its contract: the digits counted so far and those of `rest` are all of them, with the last one counted twice.
+-- `number::count_by_ten` meets its contract: the k-th digit from the last is the last of `rest`.
 -- Assumes nothing.
 use Prim.Native.Nat.{_+_, _≤_}
 use mathlib.Core.Path.{_≡_, ap}
 use native.Mathlib.Omega.{arith}
 use lib.ListN.{length}
 use Rattle.number.specs.Digits.{digits}
-use Rattle.number.proofs.Digits.{digits-one, length-more, at-most}
+use Rattle.number.proofs.Digits.{digits-one, length-more, length-some, at-most}
 use Rattle.number.proofs.count_by_ten.Statement.{statement}
 use Rattle.number.proofs.count_by_ten.Tie as tie
 
@@ -18,6 +18,9 @@ abbrev μ-loop : tie.MeasureT-loop
 loop-holds : tie.Need-loop-holds Inv-loop μ-loop
 loop-holds c = (omega arith, at-most 20 (c .args .n) (omega arith) (omega arith))
 
+returns : tie.Need-returns Inv-loop μ-loop
+returns c = omega (arith, ap length (digits-one _ (c .if1 .taken)))
+
 add-k : tie.Need-add-k Inv-loop μ-loop
 add-k c = omega arith
 
@@ -25,10 +28,10 @@ loop-less : tie.Need-loop-less Inv-loop μ-loop
 loop-less c = omega arith
 
 loop-again : tie.Need-loop-again Inv-loop μ-loop
-loop-again c = (omega (arith, length-more (c .before .loop .rest) (omega arith)), c .before .loop .inv .1)
+loop-again c = let l = c .before .before .loop in (omega (arith, length-more (l .rest) (c .if1 .left)), l .inv .1)
 
-returns : tie.Need-returns Inv-loop μ-loop
-returns c = omega (arith, ap length (digits-one (c .before .loop .rest) (omega arith)))
+returns-2 : tie.Need-returns-2 Inv-loop μ-loop
+returns-2 c = omega (arith, length-some (c .before .loop .rest))
 
 pub count-by-ten-spec : {M : Type 1} → statement M
-count-by-ten-spec = tie.close (tie.spec Inv-loop μ-loop loop-holds add-k loop-less loop-again returns)
+count-by-ten-spec = tie.close (tie.spec Inv-loop μ-loop loop-holds returns add-k loop-less loop-again returns-2)

@@ -9,8 +9,8 @@ use mathlib.Core.Path.{ap}
 use Rattle.number.proofs.digit_count.Statement.{statement}
 use Rattle.number.proofs.digit_count.Tie as tie
 
-count-by-fours-requires : tie.Need-count-by-fours-requires
-count-by-fours-requires c κs = search needs
+count-by-ten-requires : tie.Need-count-by-ten-requires
+count-by-ten-requires c κs = search needs
 
 returns : tie.Need-returns
 returns c = search needs
@@ -24,4 +24,4 @@ returns-3 c =
     record { number = omega (arith, length-more n (omega arith), ap length (digits-one (n / 10) (omega arith))); most = omega arith }
 
 pub digit-count-spec : {M : Type 1} → statement M
-digit-count-spec = tie.close (tie.spec count-by-fours-requires returns returns-2 returns-3)
+digit-count-spec = tie.close (tie.spec count-by-ten-requires returns returns-2 returns-3)

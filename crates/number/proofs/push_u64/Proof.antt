@@ -25,14 +25,14 @@ same-length c = simp length-set
 returns-2 : tie.Need-returns-2
 returns-2 c = one _ _ (omega arith) (omega arith)
 
-digit-count-requires : tie.Need-digit-count-requires
-digit-count-requires c κs = search needs
+count-by-fours-requires : tie.Need-count-by-fours-requires
+count-by-fours-requires c κs = search needs
 
 returns-3 : tie.Need-returns-3
 returns-3 c = refused-4 _ _ (omega arith)
 
 put-by-fours-requires : tie.Need-put-by-fours-requires
-put-by-fours-requires c κs = (c .before .before .digit-count .ensures .number, record { fits = omega arith })
+put-by-fours-requires c κs = (c .before .before .count-by-fours .ensures .number, record { fits = omega arith })
 
 same-length-2 : tie.Need-same-length-2
 same-length-2 c = search needs
@@ -40,7 +40,7 @@ same-length-2 c = search needs
 returns-4 : tie.Need-returns-4
 returns-4 c =
     let p = c .before .before in
-    written _ _ _ (omega arith) (p .put-by-fours .ensures) _ (p .before .before .before .digit-count .ensures .number)
+    written _ _ _ (omega arith) (p .put-by-fours .ensures) _ (p .before .before .before .count-by-fours .ensures .number)
 
 pub push-u64-spec : {M : Type 1} → statement M
 push-u64-spec =
@@ -52,7 +52,7 @@ push-u64-spec =
     slice-write-out
     same-length
     returns-2
-    digit-count-requires
+    count-by-fours-requires
     returns-3
     put-by-fours-requires
     same-length-2
