@@ -19,7 +19,7 @@ loop-holds : tie.Need-loop-holds Inv-loop μ-loop
 loop-holds c = (omega arith, at-most 20 (c .args .n) (omega arith) (omega arith))
 
 returns : tie.Need-returns Inv-loop μ-loop
-returns c = omega (arith, ap length (digits-one _ (c .if1 .taken)))
+returns c = omega (arith, ap length (digits-one (c .before .before .loop .rest) (omega arith)))
 
 add-k : tie.Need-add-k Inv-loop μ-loop
 add-k c = omega arith
@@ -28,7 +28,7 @@ loop-less : tie.Need-loop-less Inv-loop μ-loop
 loop-less c = omega arith
 
 loop-again : tie.Need-loop-again Inv-loop μ-loop
-loop-again c = let l = c .before .before .loop in (omega (arith, length-more (l .rest) (c .if1 .left)), l .inv .1)
+loop-again c = let l = c .before .before .loop in (omega (arith, length-more (l .rest) (omega arith)), l .inv .1)
 
 returns-2 : tie.Need-returns-2 Inv-loop μ-loop
 returns-2 c = omega (arith, length-some (c .before .loop .rest))
