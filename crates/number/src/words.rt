@@ -11,7 +11,7 @@ ghost use Rattle.number.specs.PlacesSet.{PlacesSet};
 ghost use Rattle.number.specs.Word.{byteText, wordText, wordBytes, Word, numberWord};
 
 // The bytes of a word at the place `k`. All four are stored, so that it is one store.
-pub fn store_word(buf: &mut [u8], k: usize, w: u32)
+pub(crate) fn store_word(buf: &mut [u8], k: usize, w: u32)
     requires { ⌜ k + 4 ≤ length (now buf) ⌝ }
     ensures { λ _. ⌜ now (buf .exit) ≡ sets (now (buf .entry)) k (wordBytes w) ⌝ }
 {
