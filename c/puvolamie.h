@@ -40,6 +40,8 @@ enum {
     PV_TOO_MANY_ROWS = 15,      /* At most 192 rows in the measure? */
     PV_BAD_END = 16,            /* The line ";", and nothing after it? */
     PV_PAYLOAD_CUT = 17,        /* The whole payload present? Asked straight after 8 for the same field. */
+    PV_BAD_SN_TEXT = 18,        /* Runs and breaks by the rules, with at most PV_MOST_MEASURES measures? */
+    PV_UNDECIDED = 19,          /* Is each gap decided, no two neighbouring runs having different classes? */
     PV_NO_SUCH_NUMBER = 100     /* Does the number stand for a mode, or a level? Asked first. */
 };
 
@@ -209,6 +211,12 @@ pv_outputs pv_compute_stream_outputs(
 
 /* The first of the standard texts detailed, partial, simple, total that is no longer than the width. Questions 1, 6, 4. */
 pv_label_written pv_label(const uint32_t *m, size_t m_length, uint8_t *out, size_t out_length, size_t width);
+
+/* The standard detailed text of an SN detailed text; at most sn_length bytes, 11 for the empty text. Runs and breaks are parted by
+ * one space; numbers have no leading zero, run lengths are from 1, breaks from 2; the first and last items are runs, and no two
+ * breaks are neighbours. Neighbouring runs of one class had a gap of 1; between different classes it was 0 or 1, which cannot be
+ * told. For the 18th question an undecided gap counts as 0. Questions 18, 19, 4. */
+pv_written pv_sn_to_standard(const uint8_t *sn, size_t sn_length, uint8_t *out, size_t out_length);
 
 /* The first of two texts if it is no longer than the width, else the second if it is, else the empty beginning of the first. */
 pv_pair_part pv_label_pair(

@@ -625,6 +625,43 @@ static void test_long_rows(size_t measures)
     free(rows);
 }
 
+/* ---- SN texts */
+
+/* Slices without a place, one short, exact, longer, or, where the text is refused, as long as it. */
+static void check_sn(const char *sn, uint32_t number, const char *due)
+{
+    size_t length = strlen(due);
+    size_t most = number == PV_ACCEPTED ? length + 3 : strlen(sn) + 11;
+    for (size_t room = 0; room <= most; room++) {
+        bool fits = number == PV_ACCEPTED && room >= length;
+        lend();
+        pv_written r = pv_sn_to_standard((const uint8_t *)sn, strlen(sn), text, room);
+        expect(r.refused == (number != PV_ACCEPTED ? number : fits ? PV_ACCEPTED : PV_TEXT_TOO_SHORT), "an SN text is accepted or refused");
+        expect(fits ? same_text(text, r.length, due) : r.length == 0, "the standard text of an SN text");
+        expect(wrote(fits ? length : 0, 0), "an SN text leaves the rest");
+    }
+}
+
+static void test_sn_texts(void)
+{
+    static const char *const undecided[] = {"1 ~1~", "2 ~2~ (3) 1", "1048575 ~1~", "=1= (2) 1 \\1\\"};
+    static const char *const wrong[] = {
+        "0", "01", " ", " 1", "1 ", "1  1", "(2)", "(2) 1", "1 (2)", "1 (1) 1", "1 (02) 1", "1 (2) (2) 1", "1 (2)1", "1(2) 1",
+        "~1", "1~", "~1=", "~~", "3*", "~3~*", "1 - 1", "1-1", "No Streams!", "1\n", "1048577", "4294967297", "1048576 1", "1048576 ~1~"};
+    chart_name = "none: SN texts";
+    check_sn("", PV_ACCEPTED, "No Streams!");
+    check_sn("1", PV_ACCEPTED, "1");
+    check_sn("1 1", PV_ACCEPTED, "1-1");
+    check_sn("=1= (2) 1", PV_ACCEPTED, "1 (2) 1");
+    check_sn("1 (1048574) 1", PV_ACCEPTED, "1 (1048574) 1");
+    check_sn("~12~ ~3~ (33) \\4\\ \\5\\ (2) =6=", PV_ACCEPTED, "12-3 (33) 4-5 (2) 6");
+    for (size_t i = 0; i < sizeof undecided / sizeof undecided[0]; i++)
+        check_sn(undecided[i], PV_UNDECIDED, "");
+    for (size_t i = 0; i < sizeof wrong / sizeof wrong[0]; i++)
+        check_sn(wrong[i], PV_BAD_SN_TEXT, "");
+    expect(pv_sn_to_standard(NULL, 0, NULL, 0).refused == PV_TEXT_TOO_SHORT, "no text at all, and no place");
+}
+
 /* ---- what `sheet` prints */
 
 static void check_sheet(const uint8_t *bytes, size_t length, const char *printed)
@@ -698,6 +735,7 @@ int main(void)
     test_full_measures();
     test_long_rows(4096);
     test_long_rows(4097);
+    test_sn_texts();
     test_sheet();
     test_domain(PV_MOST_MEASURES - 1);
     test_domain(PV_MOST_MEASURES);

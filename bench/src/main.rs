@@ -1,4 +1,4 @@
-//! The proved pass beside the unchanged Rust: first that both answer the same, then how long each takes. Numbers: `numbers`. Note rows: `rows`.
+//! The proved pass beside the unchanged Rust: first that both answer the same, then how long each takes. Numbers: `numbers`. Note rows: `rows`. SN texts: `sn`.
 mod loads;
 #[allow(dead_code)]
 #[path = "../../judge/src/math.rs"]
@@ -7,7 +7,10 @@ mod numbers;
 mod ours;
 #[path = "../../rust/compare/src/plain_rows.rs"]
 mod plain_rows;
+#[path = "../../rust/compare/src/plain_sn_to_standard.rs"]
+mod plain_sn_to_standard;
 mod rows;
+mod sn;
 #[path = "../../judge/src/streams.rs"]
 mod streams;
 use ours::{Counts, Lent, Library, LIBRARIES};
@@ -180,7 +183,7 @@ fn table(only: &str) {
 /// With an argument, only the charts whose name has it, only the numbers ("numbers") or only the note rows ("rows").
 fn main() {
     let only = std::env::args().nth(1).unwrap_or_default();
-    if only != "rows" && only != "numbers" {
+    if !["numbers", "rows", "sn"].contains(&only.as_str()) {
         table(&only);
     }
     if only.is_empty() || only == "numbers" {
@@ -188,5 +191,8 @@ fn main() {
     }
     if only.is_empty() || only == "rows" {
         rows::table();
+    }
+    if only.is_empty() || only == "sn" {
+        sn::table();
     }
 }

@@ -86,6 +86,7 @@ pub const LIBRARIES: &[Library] = &[
 
 extern "C" {
     fn pv_read_note_rows(text: *const u8, text_len: usize, densities: *mut u32, densities_len: usize) -> RowsAnswer;
+    fn pv_sn_to_standard(sn: *const u8, sn_len: usize, out: *mut u8, out_len: usize) -> Written;
 }
 
 /// What the pass is lent.
@@ -139,4 +140,8 @@ impl Library {
 
 pub fn read_note_rows(text: &[u8], densities: &mut [u32]) -> RowsAnswer {
     unsafe { pv_read_note_rows(text.as_ptr(), text.len(), densities.as_mut_ptr(), densities.len()) }
+}
+
+pub fn sn_to_standard(sn: &[u8], out: &mut [u8]) -> Written {
+    unsafe { pv_sn_to_standard(sn.as_ptr(), sn.len(), out.as_mut_ptr(), out.len()) }
 }

@@ -146,6 +146,7 @@ calls! {
     ) -> StreamOutputs;
     fn label as pv_label([m: u32] {out: u8} width: usize) -> LabelWritten;
     fn label_pair as pv_label_pair([first: u8] [second: u8] width: usize) -> PairPart;
+    fn sn_to_standard as pv_sn_to_standard([sn: u8] {out: u8}) -> Written;
     fn read_chart_record as pv_read_chart_record([record: u8] {densities: u32}) -> RecordAnswer;
     fn read_note_rows as pv_read_note_rows([text: u8] {densities: u32}) -> RowsAnswer;
     fn print_sheet as pv_print_sheet([record: u8]) -> Sheet;

@@ -180,6 +180,12 @@ pub fn label_pair<'a>(first: &'a [u8], second: &'a [u8], width: usize) -> &'a [u
     text.get(..r.length).unwrap_or_default()
 }
 
+/// The standard detailed text of an SN detailed text; at most as long, 11 bytes for the empty text. Questions 18, 19, 4.
+pub fn sn_to_standard(sn: &[u8], out: &mut [u8]) -> Result<usize, Refused> {
+    let r = ffi::sn_to_standard(sn, out);
+    Refused::unless(r.refused, r.length)
+}
+
 /// The densities of a chart record. Questions 8, 17, 9, 10, 11 field by field, then 1, 12.
 pub fn read_chart_record(record: &[u8], densities: &mut [u32]) -> Result<ChartRecord, Refused> {
     let r = ffi::read_chart_record(record, densities);

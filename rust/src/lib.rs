@@ -1,6 +1,7 @@
 //! Stream breakdowns of dance game charts, by proved calls: the functions and types of `rssp-core`'s `streams`, over the
-//! static library `puvolamie_c`, and a reader of note rows. A chart of more than 1,048,576 measures, a run symbol for a break,
-//! and note rows outside their rules are refused; nothing else is, and nothing panics.
+//! static library `puvolamie_c`, a reader of note rows, and a converter from SN to standard detailed text. A chart of more than
+//! 1,048,576 measures, a run symbol for a break, and note rows and SN texts outside their rules or undecided are refused; nothing
+//! else is, and nothing panics.
 //!
 //! The functions here allocate their answers. Those of [`lent`] write into slices that the caller lends.
 
@@ -146,6 +147,15 @@ pub fn format_run_symbol(cat: RunDensity, len: usize, star: bool) -> Result<Stri
     // 20 digits, two signs and a star.
     text(23, |out| {
         lent::format_run_symbol(cat, len as u64, star, out)
+    })
+}
+
+/// The standard detailed text of an SN detailed text. One outside the rules, or of more than 1,048,576 measures, is refused with
+/// 18; one in which neighbouring runs have different classes, so that nobody can tell their gap, with 19.
+pub fn sn_to_standard(sn: &str) -> Result<String, Refused> {
+    // The empty text becomes one of 11 bytes.
+    text(sn.len().max(11), |out| {
+        lent::sn_to_standard(sn.as_bytes(), out)
     })
 }
 

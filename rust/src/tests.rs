@@ -1,4 +1,4 @@
-//! The paper's charts, through the functions with the original's names, and note rows.
+//! The paper's charts, through the functions with the original's names, note rows, and SN texts.
 
 use crate::*;
 
@@ -265,4 +265,50 @@ fn note_rows_at_the_domains_edge() {
     let m = read_note_rows(&rows.as_bytes()[2..]).unwrap();
     assert_eq!((m.len(), m.last()), (MOST_MEASURES, Some(&2)));
     assert!(m.iter().rev().skip(1).all(|&d| d == 0));
+}
+
+#[test]
+fn sn_texts_become_standard_texts() {
+    for (i, chart) in CHARTS.iter().enumerate() {
+        // Cases 4 and 12 have neighbouring runs of different classes.
+        let due = if i == 3 || i == 12 {
+            Err(Refused(19))
+        } else {
+            Ok(chart.texts[3].to_string())
+        };
+        assert_eq!(sn_to_standard(chart.texts[0]), due);
+    }
+    let sn = "~12~ ~3~ (33) \\4\\ (2) =6=";
+    assert_eq!(sn_to_standard(sn).as_deref(), Ok("12-3 (33) 4 (2) 6"));
+    let mut longer = [7; 19];
+    assert_eq!(lent::sn_to_standard(sn.as_bytes(), &mut longer), Ok(17));
+    assert_eq!(&longer, b"12-3 (33) 4 (2) 6\x07\x07");
+    let mut short = [7; 16];
+    let refused = lent::sn_to_standard(sn.as_bytes(), &mut short);
+    assert_eq!((refused, short), (Err(Refused(4)), [7; 16]));
+}
+
+#[test]
+fn refused_sn_texts() {
+    let texts = [
+        ("01", 18),
+        ("1 (1) 1", 18),
+        ("1 (2)", 18),
+        ("1  1", 18),
+        ("3*", 18),
+        ("1048576 1", 18),
+        ("1048575 ~1~", 19),
+        ("1 ~1~", 19),
+    ];
+    for (sn, number) in texts {
+        let mut out = [7; 20];
+        let refused = lent::sn_to_standard(sn.as_bytes(), &mut out);
+        assert_eq!((refused, out), (Err(Refused(number)), [7; 20]));
+        assert_eq!(sn_to_standard(sn), Err(Refused(number)));
+    }
+    let words = [
+        "refused 18: runs and breaks by the rules, with at most 1,048,576 measures?",
+        "refused 19: is each gap decided?",
+    ];
+    assert_eq!([18, 19].map(|n| Refused(n).to_string()), words);
 }

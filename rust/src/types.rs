@@ -153,6 +153,8 @@ impl fmt::Display for Refused {
             15 => "at most 192 rows in a measure?",
             16 => "the line \";\", and nothing after it?",
             17 => "the whole payload present?",
+            18 => "runs and breaks by the rules, with at most 1,048,576 measures?",
+            19 => "is each gap decided?",
             _ => "unknown question",
         };
         write!(f, "refused {}: {}", self.0, question)

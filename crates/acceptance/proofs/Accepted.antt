@@ -12,6 +12,7 @@ use borrow.Author.Tests.{leb-true}
 use Rattle.number.specs.Questions.{firstNo, accepted, filled}
 use Rattle.number.specs.declared.Written.{Written}
 use Rattle.number.proofs.Split.{split}
+use Rattle.rules.specs.Bytes.{sameBytes}
 use Rattle.rules.specs.Chart.{inDomain, classes, classNumber, tokens, counts, noCounts}
 use Rattle.rules.specs.declared.Kind.the-variants.{Standard as standard}
 use Rattle.rules.specs.Texts.{text, passKinds, lengthsOf}
@@ -19,12 +20,11 @@ use Rattle.rules.specs.Calls.{share, stepAt, afterStep, labelChoice}
 use Rattle.rules.specs.declared.RunDensity.{RunDensity}
 use Rattle.rules.specs.declared.RunDensity.the-variants.{Run32, Run24, Run20, Run16, Break}
 use Rattle.rules.specs.declared.StreamBreakdownLevel.the-variants as Level
+use Rattle.rules.proofs.Bytes.{same-exactly}
 use Rattle.rules.proofs.Domain.{within}
 use Rattle.rules.proofs.Share.{share-most}
 use Rattle.rules.proofs.Steps.{active-part}
 use Rattle.counts.specs.Promises.{hasStream}
-use Rattle.alike.specs.Promises.{sameBytes}
-use Rattle.alike.proofs.Same.{same-exactly}
 use Rattle.token_view.specs.Promises.{noToken}
 use Rattle.segments.specs.Promises.{segmentsNo, noSegment, nthSegment}
 use Rattle.segments.specs.declared.SegmentsAnswer.{SegmentsAnswer}

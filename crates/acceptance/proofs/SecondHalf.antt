@@ -22,11 +22,13 @@ use Rattle.chart_texts.specs.declared.ThreeWritten.{ThreeWritten}
 use Rattle.label.specs.Promises.{labelText, labelLevel}
 use Rattle.label.specs.declared.LabelWritten.{LabelWritten}
 use Rattle.stream_outputs.specs.declared.StreamOutputs.{StreamOutputs}
+use Rattle.sn_to_standard.specs.Laws.{snText, standardText}
+use Rattle.sn_to_standard.proofs.Laws.{laws}
 use Rattle.record.specs.Record.{fieldsOf, nameOf}
 use Rattle.sheet_lines.specs.Sheet.{line, countsLine, textLines, sheetNo, sheetKinds, sheetBytes, chartOf, Printed}
 use Rattle.sheet_lines.specs.declared.Sheet.{Sheet}
 use Rattle.sheet_lines.proofs.Lines.{counts-line, one-line-name, sheet-lines}
-use Rattle.acceptance.specs.SecondHalf.{nth, KindAt, afterLine, lineAt, TextWritten, single, three, pass, label, sheet, SecondHalf}
+use Rattle.acceptance.specs.SecondHalf.{nth, KindAt, afterLine, lineAt, TextWritten, single, three, pass, label, converted, sheet, SecondHalf}
 use Rattle.acceptance.proofs.Written.{marked-off, nth-text, after-line, line-text}
 
 -- several texts end to end, refused by the number q or not
@@ -91,6 +93,9 @@ written-text (label width l m old new r p e h) =
     let accept = sym (ap (λ (w : LabelWritten). w .refused) (p .answer)) ∙ e in
     marked-off _ (labelText (labelChoice width m) m) old new (r .length) accept (ap (λ (w : LabelWritten). w .length) (p .answer)) (p .bytes)
     ∙ labelled _ (labelChoice width m) l m accept (sym h ∙ ap (λ (w : LabelWritten). w .level) (p .answer))
+written-text (converted m old new r p e) =
+    let w = laws .answers (snText m) old new r p .right e m refl in
+    rw (w .0, w .1) (take-append-seam (standardText m) (drop (length (standardText m)) old))
 written-text (sheet i k input r h p e) = printed-text i k input r h p e
 
 pub second-half : SecondHalf

@@ -2,3 +2,4 @@ pub mod Refusals
 pub mod Accepted
 pub mod FirstHalf
 pub mod SecondHalf
+pub mod Conversion

@@ -18,6 +18,8 @@ use Rattle.rules.specs.Calls.{levelNumber}
 use Rattle.rules.specs.Demand.{SameStreams}
 use Rattle.rules.specs.declared.StreamBreakdownLevel.{StreamBreakdownLevel}
 use Rattle.rules.specs.declared.StreamBreakdownLevel.the-variants as Level
+use Rattle.sn_to_standard.specs.Promises.{SnToStandard}
+use Rattle.sn_to_standard.specs.Laws.{snText}
 use Rattle.chart_texts.specs.Promises.{Breakdown, Breakdowns}
 use Rattle.chart_texts.specs.declared.ThreeWritten.{ThreeWritten}
 use Rattle.label.specs.Promises.{Label}
@@ -66,6 +68,9 @@ pub data TextWritten : Kind → List ℕ → List ℕ → Type 0 where
   -- label, at the level that it answers
   label : (width : ℕ) (l : StreamBreakdownLevel) (m old new : List ℕ) (r : LabelWritten) → Label width m old new r → r .refused ≡ 0 → r .level ≡ levelNumber l
       → TextWritten (standard l) m (take (r .length) new)
+  -- sn_to_standard, of the chart's SN detailed text
+  converted : (m old new : List ℕ) (r : Written) → SnToStandard (snText m) old new r → r .refused ≡ 0
+      → TextWritten (standard Level.Detailed) m (take (r .length) new)
   -- sheet: the texts are its lines from the third on
   sheet : (i : ℕ) (k : Kind) (input : List ℕ) (r : Sheet) → KindAt sheetKinds i k → Printed input r → sheetNo input ≡ 0
       → TextWritten k (chartOf input) (lineAt (suc (suc i)) (take (r .length) (r .bytes)))

@@ -2,24 +2,26 @@
 -- Assumes nothing.
 use Prim.Native.Nat.{ℕ, _+_, _≤_, _<_}
 use mathlib.Core.Path.{_≡_, refl, sym, ap, _∙_}
-use mathlib.Core.Bool.{Bool, true, false, not, Bool·beq, and-eq-true-iff, false≢true}
+use mathlib.Core.Bool.{Bool, true, false, not, Bool·beq, false≢true}
 use mathlib.Core.Logic.{_↔_, inl, inr}
-use mathlib.Core.List.{List, [], _∷_}
+use mathlib.Core.List.{List}
 use native.Mathlib.Omega.{arith}
-use lib.Dec.{eqb, ltb}
+use lib.Dec.{ltb}
 use lib.ListN.{length, getD, length-map}
 use borrow.Author.Count.{below-more}
-use borrow.Author.Tests.{ltb-true, ltb-false, eq-eqb, eqb-true}
+use borrow.Author.Tests.{ltb-true, ltb-false}
 use Rattle.number.proofs.Split.{split}
+use Rattle.rules.specs.Bytes.{sameBytes}
 use Rattle.rules.specs.Chart.{classOf, classes, active, activePart}
 use Rattle.rules.specs.declared.Kind.the-variants.{Standard as standard}
 use Rattle.rules.specs.Texts.{text}
 use Rattle.rules.specs.Demand.{Stream, SamePlaces, SameStreams}
 use Rattle.rules.specs.declared.StreamBreakdownLevel.the-variants as Level
+use Rattle.rules.proofs.Bytes.{bytes-same, same-bytes}
 use Rattle.rules.proofs.Steps.{class-0, active-part}
 use Rattle.rules.proofs.Places.{no-active}
 use Rattle.rules.proofs.Demand.{exactly, same-length, same-text}
-use Rattle.alike.specs.Promises.{sameBytes, alikeAnswer}
+use Rattle.alike.specs.Promises.{alikeAnswer}
 use Rattle.measures.proofs.Part.{stream-class, class-of-place}
 
 -- ---- stream measures at the same places
@@ -82,22 +84,6 @@ module _ (a b : List ℕ) where
   unlike-place i h t s = other-bools _ _ t (stream-test _ _ (rw (class-of-place a i, class-of-place b i) at (s .places i (rw length-map h))))
 
 -- ---- the texts
-
-bytes-same : (x : List ℕ) → sameBytes x x ≡ true
-bytes-same [] = refl
-bytes-same (n ∷ x) = rw (eq-eqb n n refl) (bytes-same x)
-
-same-bytes : (x y : List ℕ) → sameBytes x y ≡ true → x ≡ y
-same-bytes [] [] e = refl
-same-bytes [] (n ∷ y) e = absurd (false≢true e)
-same-bytes (n ∷ x) [] e = absurd (false≢true e)
-same-bytes (n ∷ x) (k ∷ y) e =
-    let t = and-eq-true-iff (eqb n k) (sameBytes x y) .0 e in
-    rw (eqb-true n k (t .0), same-bytes x y (t .1))
-
--- the test says yes exactly when the texts are the same
-pub same-exactly : (x y : List ℕ) → (sameBytes x y ≡ true) ↔ (x ≡ y)
-same-exactly x y = (same-bytes x y, λ e. rw e (bytes-same y))
 
 both-ways : (r s : Bool) → (r ≡ true → s ≡ true) → (s ≡ true → r ≡ true) → r ≡ s
 both-ways true s f g = sym (f refl)

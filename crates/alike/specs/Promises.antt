@@ -1,22 +1,15 @@
 -- The promise of alike.
 -- Assumes nothing.
 use Prim.Native.Nat.{ℕ}
-use mathlib.Core.Bool.{Bool, true, false, _&&_}
+use mathlib.Core.Bool.{false}
 use mathlib.Core.List.{List, [], _∷_}
-use lib.Dec.{eqb}
 use Rattle.number.specs.Questions.{firstNo, accepted}
+use Rattle.rules.specs.Bytes.{sameBytes}
 use Rattle.rules.specs.Chart.{inDomain}
 use Rattle.rules.specs.declared.Kind.the-variants.{Standard as standard}
 use Rattle.rules.specs.Texts.{text}
 use Rattle.rules.specs.declared.StreamBreakdownLevel.the-variants as Level
 use Rattle.alike.specs.declared.AlikeAnswer.{AlikeAnswer}
-
--- are two texts the same?
-abbrev pub sameBytes : List ℕ → List ℕ → Bool
-sameBytes [] [] = true
-sameBytes [] (y ∷ ys) = false
-sameBytes (x ∷ xs) [] = false
-sameBytes (x ∷ xs) (y ∷ ys) = eqb x y && sameBytes xs ys
 
 -- alike: question 1 of both charts, then whether their standard detailed texts are the same
 abbrev pub alikeAnswer : List ℕ → List ℕ → AlikeAnswer

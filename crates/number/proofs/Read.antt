@@ -3,25 +3,17 @@
 -- Assumes nothing.
 use Prim.Native.Nat.{ℕ, zero, suc, _+_, _-_, _*_, _/_, _%_, _≤_, _<_}
 use mathlib.Core.Path.{_≡_, refl, sym, ap, _∙_}
-use mathlib.Core.Bool.{Bool, true, cond, _&&_}
+use mathlib.Core.Bool.{true}
 use mathlib.Core.List.{List, [], _∷_, _++_, append-assoc}
 use native.Mathlib.Omega.{arith}
-use lib.Dec.{ltb, leb}
+use lib.Dec.{ltb}
 use borrow.Author.Tests.{ltb-true, ltb-false, le-leb}
-use Rattle.number.specs.Digits.{digitsIn, digits}
+use Rattle.number.specs.Digits.{digitsIn, digits, isDigit, value}
 use Rattle.number.proofs.Split.{split}
 use Rattle.number.proofs.Each.{none, _&_, each-append, All, Some, some-append}
 
-abbrev pub isDigit : ℕ → Bool
-isDigit x = leb 48 x && leb x 57
-
 is-digit : (d : ℕ) → d < 10 → isDigit (48 + d) ≡ true
 is-digit d h = rw (le-leb 48 (48 + d) (omega arith), le-leb (48 + d) 57 (omega arith))
-
--- the number that the digits among some bytes write, v being read already
-abbrev pub value : ℕ → List ℕ → ℕ
-value v [] = v
-value v (x ∷ xs) = value (cond (isDigit x) (10 * v + (x - 48)) v) xs
 
 value-digit : (v d w : ℕ) (xs : List ℕ) → d < 10 → 10 * v + d ≡ w → value v ((48 + d) ∷ xs) ≡ value w xs
 value-digit v d w xs h e = rw (is-digit d h) (ap (λ (u : ℕ). value u xs) (omega arith))

@@ -1,9 +1,9 @@
 -- Number writer: a number in base ten, as bytes.
 -- Assumes nothing.
-use Prim.Native.Nat.{ℕ, zero, suc, _+_, _/_, _%_}
-use mathlib.Core.Bool.{cond}
+use Prim.Native.Nat.{ℕ, zero, suc, _+_, _-_, _*_, _/_, _%_}
+use mathlib.Core.Bool.{Bool, cond, _&&_}
 use mathlib.Core.List.{List, [], _∷_, _++_}
-use lib.Dec.{ltb}
+use lib.Dec.{ltb, leb}
 
 -- the digits of n, which has at most k + 1 of them
 abbrev pub digitsIn : ℕ → ℕ → List ℕ
@@ -20,3 +20,12 @@ digits n = digitsIn n n
 abbrev pub lastDigits : ℕ → ℕ → List ℕ
 lastDigits zero n = []
 lastDigits (suc j) n = lastDigits j (n / 10) ++ ((48 + n % 10) ∷ [])
+
+-- is a byte one of "0" to "9"?
+abbrev pub isDigit : ℕ → Bool
+isDigit x = leb 48 x && leb x 57
+
+-- the number that the digits among some bytes write, v being read already
+abbrev pub value : ℕ → List ℕ → ℕ
+value v [] = v
+value v (x ∷ xs) = value (cond (isDigit x) (10 * v + (x - 48)) v) xs

@@ -14,6 +14,7 @@ use rules::RunDensity;
 use run_symbol::format_run_symbol;
 use sheet_lines::Sheet;
 use sheet_lines::print_sheet;
+use sn_to_standard::sn_to_standard;
 use stream_outputs::StreamOutputs;
 use stream_outputs::compute_stream_outputs;
 ghost use mathlib.Core.Path.{_≡_};
@@ -27,6 +28,7 @@ ghost use Rattle.chart_texts.specs.Promises.{Breakdowns};
 ghost use Rattle.label.specs.Promises.{Label};
 ghost use Rattle.stream_outputs.specs.Promises.{Outputs};
 ghost use Rattle.sheet_lines.specs.Sheet.{Printed};
+ghost use Rattle.sn_to_standard.specs.Promises.{SnToStandard};
 ghost use Rattle.puvolamie_c.specs.Numbers.{classAt, modeNumber, modeKind, levelKind, OneKind};
 ghost use Rattle.puvolamie_c.specs.Parts.{pairPart};
 
@@ -172,6 +174,13 @@ pub extern "C" fn pv_label_pair(first: &[u8], second: &[u8], width: usize) -> Pa
         second: false,
         length: 0,
     }
+}
+
+#[no_mangle]
+pub extern "C" fn pv_sn_to_standard(sn: &[u8], out: &mut [u8]) -> Written
+    ensures { λ r. ⌜ SnToStandard (now (sn .entry)) (now (out .entry)) (now (out .exit)) r ⌝ }
+{
+    sn_to_standard(sn, out)
 }
 
 // What the program `sheet` prints for the bytes `input`.

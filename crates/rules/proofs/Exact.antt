@@ -9,7 +9,7 @@ use native.Mathlib.Omega.{arith}
 use native.Mathlib.Nat.{le-of-suc-le-suc}
 use lib.Dec.{eqb, leb}
 use borrow.Author.Tests.{eqb-true}
-use Rattle.number.specs.Digits.{digits}
+use Rattle.number.specs.Digits.{digits, value}
 use Rattle.rules.specs.Bytes.{bytes}
 use Rattle.rules.specs.Chart.{Token, token, classes, tokens, streams}
 use Rattle.rules.specs.Reduced.{Sign, dash, slash, bar, Item, gap, sign, item, signOf, join, sumOf, pieces, Kind, sn, standard, reduced}
@@ -20,7 +20,7 @@ use Rattle.rules.specs.declared.StreamBreakdownLevel.the-variants as Lev
 use Rattle.rules.specs.Texts.{star, word, part, standardSign, strung, render, text}
 use Rattle.number.proofs.Split.{split}
 use Rattle.number.proofs.Each.{Each, none, _&_}
-use Rattle.number.proofs.Read.{value, value-digits}
+use Rattle.number.proofs.Read.{value-digits}
 use Rattle.rules.proofs.Cuts.{Reads, ended, stretch, parse, parse-reads}
 use Rattle.rules.proofs.Words.{read, read-word, read-piece, read-gap, Fine, solid, figure, word-solid, word-some, piece-figure, gap-figure, number-some}
 use Rattle.rules.proofs.Shape.{Within, Differ, differ-within, join-differ, absorb-within, drop-within, tokens-differ, pieces-differ}

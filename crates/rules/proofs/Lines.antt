@@ -6,10 +6,10 @@ use mathlib.Core.Bool.{Bool, true, false, false≢true}
 use mathlib.Core.List.{List, [], _∷_, _++_}
 use lib.Dec.{eqb}
 use borrow.Author.Tests.{eqb-true}
-use Rattle.number.specs.Digits.{digits}
+use Rattle.number.specs.Digits.{digits, isDigit}
 use Rattle.number.proofs.Split.{split}
 use Rattle.number.proofs.Each.{none, _&_, each-append, each-map, All}
-use Rattle.number.proofs.Read.{isDigit, digits-all}
+use Rattle.number.proofs.Read.{digits-all}
 use Rattle.rules.specs.Bytes.{bytes}
 use Rattle.rules.specs.Chart.{classes}
 use Rattle.rules.specs.Reduced.{Sign, dash, slash, bar, Item, run, gap, sign, sum, Kind, sn, standard, reduced}

@@ -7,12 +7,12 @@ use mathlib.Core.List.{List, [], _∷_, _++_}
 use native.Mathlib.Omega.{arith}
 use lib.Dec.{eqb}
 use borrow.Author.Tests.{eqb-true}
-use Rattle.number.specs.Digits.{digits}
+use Rattle.number.specs.Digits.{digits, isDigit, value}
 use Rattle.rules.specs.Reduced.{dash, slash, bar, Item, run, gap, sign, sum}
 use Rattle.rules.specs.Texts.{word, mark, star}
 use Rattle.number.proofs.Split.{split}
 use Rattle.number.proofs.Each.{none, _&_, each-append, each-map, All, Some, some-append}
-use Rattle.number.proofs.Read.{isDigit, value, value-digits, digits-all, digits-some}
+use Rattle.number.proofs.Read.{value-digits, digits-all, digits-some}
 
 -- the first byte, 0 if it is a digit
 abbrev lead : List ℕ → ℕ

@@ -1,6 +1,6 @@
 //! Compares the crate with the unchanged original: counts, segments, tokens and the seven texts by every call, and the places
-//! of lent slices that must not change. The original has no reader of chart records or of note rows; those are compared with
-//! plain ones.
+//! of lent slices that must not change. The original has no reader of chart records or of note rows and no converter of SN
+//! texts; those are compared with plain ones.
 //!
 //! compare [--quick] [SEED]
 
@@ -17,9 +17,11 @@ mod original;
 mod owned;
 mod plain_record;
 mod plain_rows;
+mod plain_sn_to_standard;
 mod random;
 mod records;
 mod small;
+mod sn_texts;
 #[path = "../../../judge/src/streams.rs"]
 mod streams;
 mod tally;
@@ -44,6 +46,7 @@ struct Extent {
     long: usize,
     rows: note_rows::Extent,
     records: chart_records::Extent,
+    sn: sn_texts::Extent,
 }
 
 const FULL: Extent = Extent {
@@ -65,6 +68,11 @@ const FULL: Extent = Extent {
         random: 100_000,
         long: 3,
     },
+    sn: sn_texts::Extent {
+        charts: 6,
+        small: 6,
+        random: 500_000,
+    },
 };
 
 const QUICK: Extent = Extent {
@@ -85,6 +93,11 @@ const QUICK: Extent = Extent {
         small: 6,
         random: 5_000,
         long: 1,
+    },
+    sn: sn_texts::Extent {
+        charts: 6,
+        small: 5,
+        random: 20_000,
     },
 };
 
@@ -114,10 +127,11 @@ fn main() -> ExitCode {
     let mut tally = Tally::default();
     let outcome = compare(if quick { &QUICK } else { &FULL }, seed, &mut tally);
     println!(
-        "{} charts, {} texts of note rows, {} records, {} comparisons, seed {seed}, {:.1} s",
+        "{} charts, {} texts of note rows, {} records, {} SN texts, {} comparisons, seed {seed}, {:.1} s",
         tally.charts,
         tally.texts,
         tally.records,
+        tally.sn_texts,
         tally.comparisons,
         start.elapsed().as_secs_f64()
     );
@@ -156,7 +170,8 @@ fn compare(extent: &Extent, seed: u64, tally: &mut Tally) -> Outcome {
     domain_edge(extent, random, tally)?;
     say(tally, "charts at the domain's edge");
     note_rows::compare(&extent.rows, random, tally)?;
-    chart_records::compare(&extent.records, random, tally)
+    chart_records::compare(&extent.records, random, tally)?;
+    sn_texts::compare(&extent.sn, random, tally)
 }
 
 fn say(tally: &Tally, what: &str) {

@@ -66,7 +66,7 @@ fn random_texts(
         let mut text = next(random);
         compare_text(&text, tally)?;
         for _ in 0..3 {
-            texts::change(random, &mut text);
+            texts::change(random, &mut text, texts::CHANGES);
             compare_text(&text, tally)?;
         }
     }

@@ -10,6 +10,7 @@ pub type Outcome = Result<(), String>;
 pub struct Tally {
     pub charts: u64,
     pub texts: u64,
+    pub sn_texts: u64,
     pub records: u64,
     pub comparisons: u64,
 }

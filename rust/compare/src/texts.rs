@@ -10,7 +10,7 @@ const SMALL: &[u8] = b"01M,;\n\r";
 const ROW: &[u8] = b"000001234M";
 
 /// Bytes that a text is changed with, those next to a line's own among them.
-const CHANGES: &[u8] = b"01234M,;\n,;\n\r\0 +-/5:<LNm\xFF";
+pub const CHANGES: &[u8] = b"01234M,;\n,;\n\r\0 +-/5:<LNm\xFF";
 
 /// How many rows a measure has; many, at both sides of 192, are rarer.
 const FEW_ROWS: [usize; 14] = [0, 0, 1, 1, 2, 3, 4, 4, 4, 8, 12, 16, 24, 48];
@@ -62,9 +62,9 @@ fn of_measures(random: &mut Random, measures: usize, rows: &[usize]) -> Vec<u8> 
     text
 }
 
-/// A byte changed, removed or inserted, or the text cut or continued.
-pub fn change(random: &mut Random, text: &mut Vec<u8>) {
-    let byte = random.one_of(CHANGES);
+/// A byte changed, removed or inserted, or the text cut or continued, with one of these bytes.
+pub fn change(random: &mut Random, text: &mut Vec<u8>, bytes: &[u8]) {
+    let byte = random.one_of(bytes);
     let at = random.below(text.len() + 1);
     match random.below(5) {
         0 if at < text.len() => text[at] = byte,

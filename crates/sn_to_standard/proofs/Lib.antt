@@ -1,0 +1,14 @@
+pub mod Shown
+pub mod Exact
+pub mod Charts
+pub mod Spread
+pub mod Decided
+pub mod Laws
+pub mod Table
+pub mod Numbers
+pub mod Stepping
+pub mod Items
+pub mod Descents
+pub mod Blocks
+pub mod Copying
+pub mod Call
