@@ -215,7 +215,7 @@ pv_label_written pv_label(const uint32_t *m, size_t m_length, uint8_t *out, size
 /* The standard detailed text of an SN detailed text; at most sn_length bytes, 11 for the empty text. Runs and breaks are parted by
  * one space; numbers have no leading zero, run lengths are from 1, breaks from 2; the first and last items are runs, and no two
  * breaks are neighbours. Neighbouring runs of one class had a gap of 1; between different classes it was 0 or 1, which cannot be
- * told. For the 18th question an undecided gap counts as 0. Questions 18, 19, 4. */
+ * told. For question 18 an undecided gap counts as 0. Questions 18, 19, 4. */
 pv_written pv_sn_to_standard(const uint8_t *sn, size_t sn_length, uint8_t *out, size_t out_length);
 
 /* The first of two texts if it is no longer than the width, else the second if it is, else the empty beginning of the first. */
