@@ -16,23 +16,25 @@ SIZE(pv_three_written, 32);
 AT(pv_three_written, refused, 0);
 AT(pv_three_written, lengths, 8);
 
-SIZE(pv_counts, 24);
+SIZE(pv_counts, 32);
 AT(pv_counts, run16_streams, 0);
 AT(pv_counts, run20_streams, 4);
 AT(pv_counts, run24_streams, 8);
 AT(pv_counts, run32_streams, 12);
 AT(pv_counts, total_breaks, 16);
 AT(pv_counts, sn_breaks, 20);
+AT(pv_counts, lead, 24);
+AT(pv_counts, tail, 28);
 
-SIZE(pv_counts_answer, 28);
+SIZE(pv_counts_answer, 36);
 AT(pv_counts_answer, refused, 0);
 AT(pv_counts_answer, counts, 4);
 
-SIZE(pv_outputs, 88);
+SIZE(pv_outputs, 96);
 AT(pv_outputs, refused, 0);
 AT(pv_outputs, counts, 4);
-AT(pv_outputs, tokens, 32);
-AT(pv_outputs, lengths, 40);
+AT(pv_outputs, tokens, 40);
+AT(pv_outputs, lengths, 48);
 
 SIZE(pv_share_answer, 8);
 AT(pv_share_answer, refused, 0);

@@ -73,6 +73,8 @@ typedef struct { /* measures of each stream class; gaps of 2 or more, lead-in an
     uint32_t run32_streams;
     uint32_t total_breaks;
     uint32_t sn_breaks;
+    uint32_t lead; /* measures before the active part; all measures of a chart without a stream measure */
+    uint32_t tail; /* measures after the active part */
 } pv_counts;
 
 typedef struct {
@@ -167,7 +169,7 @@ uint32_t pv_categorize_measure_density(uint32_t density);
 /* Active part: first to last stream measure, as a part of m; length 0 if there is none. */
 pv_range pv_active_range(const uint32_t *m, size_t m_length);
 
-/* Counts. Question 1. */
+/* Counts. The four run counts, sn_breaks, lead and tail of an accepted chart add up to m_length. Question 1. */
 pv_counts_answer pv_compute_stream_counts(const uint32_t *m, size_t m_length);
 
 /* 10,000 x s / (s + sn_breaks), rounded down, s the stream measures; at most 10,000. Questions 1, 7. */
@@ -232,8 +234,9 @@ pv_record_answer pv_read_chart_record(
  * 1, 12. */
 pv_rows_answer pv_read_note_rows(const uint8_t *text, size_t text_length, uint32_t *densities, size_t densities_length);
 
-/* What the program `sheet` prints for a chart record: name, counts, the six texts of the pass and Total, a line each; or the only
- * line "refused N". Question 13 (at most 16,384 bytes), those of the record, of the pass and of Total. The answer is large. */
+/* What the program `sheet` prints for a chart record: name, the eight counts, the six texts of the pass and Total, a line each; or
+ * the only line "refused N". Question 13 (at most 16,384 bytes), those of the record, of the pass and of Total. The answer is
+ * large. */
 pv_sheet pv_print_sheet(const uint8_t *bytes, size_t bytes_length);
 
 #ifdef __cplusplus

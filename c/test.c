@@ -84,7 +84,7 @@ struct token {
 struct chart {
     const char *name;
     struct stretch stretches[6];
-    pv_counts counts;
+    pv_counts counts; /* lead and tail last */
     uint32_t share; /* 0 without a stream measure */
     const char *texts[7]; /* SN detailed, partial, simplified, standard detailed, partial, simple, Total */
 };
@@ -92,19 +92,19 @@ struct chart {
 #define NONE "No Streams!"
 
 static const struct chart charts[] = {
-    {"1", {{0, 0}}, {0, 0, 0, 0, 0, 0}, 0, {"", "", "", NONE, NONE, NONE, NONE}},
-    {"2", {{15, 1}}, {0, 0, 0, 0, 0, 0}, 0, {"", "", "", NONE, NONE, NONE, NONE}},
-    {"3", {{16, 1}}, {1, 0, 0, 0, 0, 0}, 10000, {"1", "1", "1", "1", "1", "1", "1 Total"}},
-    {"4", {{19, 1}, {20, 1}}, {1, 1, 0, 0, 0, 0}, 10000, {"1 ~1~", "1 ~1~", "1 ~1~", "2", "2", "2", "2 Total"}},
-    {"5", {{16, 1}, {0, 1}, {16, 1}}, {2, 0, 0, 0, 0, 1}, 6666, {"1 1", "3*", "3*", "1-1", "1-1", "3*", "2 Total"}},
-    {"6", {{16, 1}, {0, 4}, {16, 1}}, {2, 0, 0, 0, 4, 4}, 3333, {"1 (4) 1", "1 - 1", "6*", "1 (4) 1", "1-1", "1-1", "2 Total"}},
-    {"7", {{16, 1}, {0, 5}, {16, 1}}, {2, 0, 0, 0, 5, 5}, 2857, {"1 (5) 1", "1 / 1", "1 / 1", "1 (5) 1", "1/1", "1/1", "2 Total"}},
-    {"8", {{16, 1}, {0, 32}, {16, 1}}, {2, 0, 0, 0, 32, 32}, 588, {"1 (32) 1", "1 / 1", "1 / 1", "1 (32) 1", "1 | 1", "1 | 1", "2 Total"}},
-    {"9", {{16, 1}, {0, 33}, {16, 1}}, {2, 0, 0, 0, 33, 33}, 571, {"1 (33) 1", "1 | 1", "1 | 1", "1 (33) 1", "1 | 1", "1 | 1", "2 Total"}},
-    {"10", {{32, 1}, {0, 2}, {16, 1}}, {1, 0, 0, 1, 2, 2}, 5000, {"=1= (2) 1", "=1= - 1", "=3=* 1", "1 (2) 1", "1-1", "1-1", "2 Total"}},
-    {"11", {{0, 2}, {16, 1}}, {1, 0, 0, 0, 2, 0}, 10000, {"1", "1", "1", "1", "1", "1", "1 Total"}},
-    {"11, 1 q", {{0, 1}, {16, 1}}, {1, 0, 0, 0, 0, 0}, 10000, {"1", "1", "1", "1", "1", "1", "1 Total"}},
-    {"12", {{16, 2}, {0, 1}, {20, 2}, {0, 3}, {16, 1}}, {3, 2, 0, 0, 3, 4}, 5555,
+    {"1", {{0, 0}}, {0, 0, 0, 0, 0, 0, 0, 0}, 0, {"", "", "", NONE, NONE, NONE, NONE}},
+    {"2", {{15, 1}}, {0, 0, 0, 0, 0, 0, 1, 0}, 0, {"", "", "", NONE, NONE, NONE, NONE}},
+    {"3", {{16, 1}}, {1, 0, 0, 0, 0, 0, 0, 0}, 10000, {"1", "1", "1", "1", "1", "1", "1 Total"}},
+    {"4", {{19, 1}, {20, 1}}, {1, 1, 0, 0, 0, 0, 0, 0}, 10000, {"1 ~1~", "1 ~1~", "1 ~1~", "2", "2", "2", "2 Total"}},
+    {"5", {{16, 1}, {0, 1}, {16, 1}}, {2, 0, 0, 0, 0, 1, 0, 0}, 6666, {"1 1", "3*", "3*", "1-1", "1-1", "3*", "2 Total"}},
+    {"6", {{16, 1}, {0, 4}, {16, 1}}, {2, 0, 0, 0, 4, 4, 0, 0}, 3333, {"1 (4) 1", "1 - 1", "6*", "1 (4) 1", "1-1", "1-1", "2 Total"}},
+    {"7", {{16, 1}, {0, 5}, {16, 1}}, {2, 0, 0, 0, 5, 5, 0, 0}, 2857, {"1 (5) 1", "1 / 1", "1 / 1", "1 (5) 1", "1/1", "1/1", "2 Total"}},
+    {"8", {{16, 1}, {0, 32}, {16, 1}}, {2, 0, 0, 0, 32, 32, 0, 0}, 588, {"1 (32) 1", "1 / 1", "1 / 1", "1 (32) 1", "1 | 1", "1 | 1", "2 Total"}},
+    {"9", {{16, 1}, {0, 33}, {16, 1}}, {2, 0, 0, 0, 33, 33, 0, 0}, 571, {"1 (33) 1", "1 | 1", "1 | 1", "1 (33) 1", "1 | 1", "1 | 1", "2 Total"}},
+    {"10", {{32, 1}, {0, 2}, {16, 1}}, {1, 0, 0, 1, 2, 2, 0, 0}, 5000, {"=1= (2) 1", "=1= - 1", "=3=* 1", "1 (2) 1", "1-1", "1-1", "2 Total"}},
+    {"11", {{0, 2}, {16, 1}}, {1, 0, 0, 0, 2, 0, 2, 0}, 10000, {"1", "1", "1", "1", "1", "1", "1 Total"}},
+    {"11, 1 q", {{0, 1}, {16, 1}}, {1, 0, 0, 0, 0, 0, 1, 0}, 10000, {"1", "1", "1", "1", "1", "1", "1 Total"}},
+    {"12", {{16, 2}, {0, 1}, {20, 2}, {0, 3}, {16, 1}}, {3, 2, 0, 0, 3, 4, 0, 0}, 5555,
      {"2 ~2~ (3) 1", "2 ~2~ - 1", "2 ~5~* 1", "2-2 (3) 1", "2-2-1", "5*-1", "5 Total"}},
 };
 
@@ -209,7 +209,7 @@ static void check_pass(const struct chart *chart, pv_outputs r)
 
 static void check_refused_pass(pv_outputs r, uint32_t number)
 {
-    pv_counts none = {0, 0, 0, 0, 0, 0};
+    pv_counts none = {0, 0, 0, 0, 0, 0, 0, 0};
     expect(r.refused == number && same_counts(r.counts, none) && r.tokens == 0, "a refused pass");
     for (int i = 0; i < 6; i++)
         expect(r.lengths[i] == 0, "a refused pass has no lengths");
@@ -242,14 +242,48 @@ static void test_pass(const struct chart *chart)
 
 /* ---- what is read off a chart */
 
-static void test_counts(const struct chart *chart)
+static size_t measures_in(pv_counts c)
 {
-    pv_counts_answer r = pv_compute_stream_counts(m, m_length);
-    expect(r.refused == PV_ACCEPTED && same_counts(r.counts, chart->counts), "counts");
+    return (size_t)c.run16_streams + c.run20_streams + c.run24_streams + c.run32_streams + c.sn_breaks + c.lead + c.tail;
 }
 
-/* The chart's share, with so many breaks before it and behind it. */
-static void expect_share(const struct chart *chart, size_t before, size_t behind)
+/* Counts by both calls: those due, or all 0 where there are too many measures. */
+static void expect_counts(const uint32_t *measures, size_t length, pv_counts due)
+{
+    const pv_counts none = {0, 0, 0, 0, 0, 0, 0, 0};
+    bool accepted = length <= PV_MOST_MEASURES;
+    uint32_t number = accepted ? PV_ACCEPTED : PV_TOO_MANY_MEASURES;
+    lend();
+    pv_counts_answer c = pv_compute_stream_counts(measures, length);
+    pv_outputs r = pv_compute_stream_outputs(measures, length, classes, MOST, lengths, MOST, text, MOST);
+    expect(c.refused == number && same_counts(c.counts, accepted ? due : none), "counts");
+    expect(r.refused == number && same_counts(r.counts, accepted ? due : none), "counts of the pass");
+    expect(measures_in(c.counts) == (accepted ? length : 0), "the counts add up to the measures");
+    expect(measures_in(r.counts) == (accepted ? length : 0), "the counts of the pass add up to the measures");
+}
+
+static uint32_t wide(uint32_t gap)
+{
+    return gap < 2 ? 0 : gap;
+}
+
+/* The chart's counts with so many breaks before it and behind it; without a stream measure all are in lead. */
+static pv_counts longer_counts(const struct chart *chart, size_t before, size_t behind)
+{
+    pv_counts due = chart->counts;
+    if (chart->share == 0) {
+        due.lead = (uint32_t)(before + m_length + behind);
+        return due;
+    }
+    due.lead += (uint32_t)before;
+    due.tail += (uint32_t)behind;
+    due.total_breaks += wide(due.lead) - wide(chart->counts.lead);
+    due.total_breaks += wide(due.tail) - wide(chart->counts.tail);
+    return due;
+}
+
+/* The chart's share and counts with so many breaks before it and behind it. */
+static void expect_longer(const struct chart *chart, size_t before, size_t behind)
 {
     static uint32_t longer[MOST];
     size_t end = before + m_length;
@@ -258,15 +292,17 @@ static void expect_share(const struct chart *chart, size_t before, size_t behind
     pv_share_answer s = pv_share(longer, end + behind);
     uint32_t number = chart->share == 0 ? PV_NO_STREAM_MEASURE : PV_ACCEPTED;
     expect(s.refused == number && s.share == chart->share, "share");
+    expect_counts(longer, end + behind, longer_counts(chart, before, behind));
 }
 
-static void test_share(const struct chart *chart)
+static void test_longer(const struct chart *chart)
 {
-    expect_share(chart, 0, 0);
+    expect_longer(chart, 0, 0);
     for (size_t breaks = 1; breaks < 4; breaks++) {
-        expect_share(chart, breaks, 0);
-        expect_share(chart, 0, breaks);
-        expect_share(chart, breaks, 100 * breaks);
+        expect_longer(chart, breaks, 0);
+        expect_longer(chart, 0, breaks);
+        expect_longer(chart, breaks, 100 * breaks);
+        expect_longer(chart, 100 * breaks, breaks);
     }
 }
 
@@ -388,8 +424,7 @@ static void test_chart(const struct chart *chart)
     test_three(chart, 0);
     test_three(chart, 3);
     test_pass(chart);
-    test_counts(chart);
-    test_share(chart);
+    test_longer(chart);
     test_active_range();
     test_tokens(chart);
     test_segments();
@@ -673,10 +708,14 @@ static void check_sheet(const uint8_t *bytes, size_t length, const char *printed
 static void test_sheet(void)
 {
     static const uint8_t bytes[] = {1, 0, 1, 'A', 2, 0, 9, 16, 16, 0, 20, 20, 0, 0, 0, 16};
+    static const uint8_t led_in[] = {1, 0, 1, 'B', 2, 0, 5, 15, 16, 0, 0, 0};
+    static const uint8_t quiet[] = {1, 0, 1, 'C', 2, 0, 2, 15, 0};
     static const uint8_t long_input[16385];
     chart_name = "a record";
     check_sheet(bytes, sizeof bytes,
-        "A\n3 2 0 0 3 4\n2 ~2~ (3) 1\n2 ~2~ - 1\n2 ~5~* 1\n2-2 (3) 1\n2-2-1\n5*-1\n5 Total\n");
+        "A\n3 2 0 0 3 4 0 0\n2 ~2~ (3) 1\n2 ~2~ - 1\n2 ~5~* 1\n2-2 (3) 1\n2-2-1\n5*-1\n5 Total\n");
+    check_sheet(led_in, sizeof led_in, "B\n1 0 0 0 3 0 1 3\n1\n1\n1\n1\n1\n1\n1 Total\n");
+    check_sheet(quiet, sizeof quiet, "C\n0 0 0 0 0 0 2 0\n\n\n\n" NONE "\n" NONE "\n" NONE "\n" NONE "\n");
     check_sheet(bytes, 2, "refused 8\n");
     check_sheet(bytes, 3, "refused 17\n");
     check_sheet(bytes, 0, "refused 10\n");
@@ -693,12 +732,12 @@ static void test_domain(size_t measures)
     for (size_t i = 0; i < measures; i++)
         chart[i] = 16;
     uint32_t few = (uint32_t)(number == PV_ACCEPTED ? measures : 0);
+    const pv_counts counts = {few, 0, 0, 0, 0, 0, 0, 0};
     lend();
     pv_outputs r = pv_compute_stream_outputs(chart, measures, classes, 1, lengths, 1, text, MOST);
-    expect(r.refused == number && r.counts.run16_streams == few && r.tokens == (few != 0), "the pass");
+    expect(r.refused == number && same_counts(r.counts, counts) && r.tokens == (few != 0), "the pass");
     expect(few != 0 || wrote(0, 0), "the refused pass writes nothing");
-    pv_counts_answer c = pv_compute_stream_counts(chart, measures);
-    expect(c.refused == number && c.counts.run16_streams == few, "counts");
+    expect_counts(chart, measures, counts);
     pv_share_answer s = pv_share(chart, measures);
     expect(s.refused == number && s.share == (few != 0 ? 10000 : 0), "share");
     expect(pv_alike(chart, measures, m, m_length).refused == number, "alike, first");
@@ -720,6 +759,26 @@ static void test_domain(size_t measures)
     free(chart);
 }
 
+/* Breaks alone, and with one stream measure. */
+static void test_ends_of_domain(size_t measures)
+{
+    uint32_t *chart = malloc(measures * sizeof *chart);
+    const uint32_t all = (uint32_t)measures;
+    const uint32_t places[] = {0, 1, 2, all / 2, all - 3, all - 2, all - 1};
+    chart_name = "of breaks, of the domain's edge";
+    for (size_t i = 0; i < measures; i++)
+        chart[i] = 15;
+    expect_counts(chart, measures, (pv_counts){0, 0, 0, 0, 0, 0, all, 0});
+    for (size_t i = 0; i < sizeof places / sizeof places[0]; i++) {
+        uint32_t lead = places[i];
+        uint32_t tail = all - lead - 1;
+        chart[lead] = 20;
+        expect_counts(chart, measures, (pv_counts){0, 1, 0, 0, wide(lead) + wide(tail), 0, lead, tail});
+        chart[lead] = 15;
+    }
+    free(chart);
+}
+
 int main(void)
 {
     for (const struct chart *chart = charts; chart < charts + CHARTS; chart++)
@@ -737,12 +796,11 @@ int main(void)
     test_long_rows(4097);
     test_sn_texts();
     test_sheet();
-    test_domain(PV_MOST_MEASURES - 1);
-    test_domain(PV_MOST_MEASURES);
-    test_domain(PV_MOST_MEASURES + 1);
-    test_long_rows(PV_MOST_MEASURES - 1);
-    test_long_rows(PV_MOST_MEASURES);
-    test_long_rows(PV_MOST_MEASURES + 1);
+    for (size_t measures = PV_MOST_MEASURES - 1; measures <= PV_MOST_MEASURES + 1; measures++) {
+        test_domain(measures);
+        test_ends_of_domain(measures);
+        test_long_rows(measures);
+    }
     printf("c: %zu checks, %zu failed\n", checks, failures);
     return failures != 0;
 }

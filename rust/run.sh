@@ -1,5 +1,5 @@
 #!/bin/sh
-# Builds the static library and the crate, runs its tests, and compares it with the original, its readers of chart records and note rows with plain ones.
+# Builds the static library and the crate, runs its tests, and compares it with the original, and what the original lacks with plain rules.
 # rust/run.sh [--quick] [SEED]: words are handed to the comparison.
 set -e
 cd "$(dirname "$0")"

@@ -1,5 +1,11 @@
-"""One chart by the rules of document 01, for the scripts beside this file. A token is [class, length, starred]."""
+"""One chart by the rules of documents 01 and 02, for the scripts beside this file. A token is [class, length, starred]."""
 from itertools import groupby
+
+
+def measures_of(line):
+    """The densities of a chart list's line."""
+    items = [item.partition("x") for item in line.split()]
+    return [int(d) for d, _, k in items for _ in range(int(k or 1))]
 
 
 def class_of(density):
@@ -15,10 +21,17 @@ def active(classes):
     return classes[places[0]:places[-1] + 1] if places else []
 
 
+def lead_and_tail(classes):
+    """The measures before and after the active part; a stream-free chart has all its measures in lead."""
+    places = [i for i, c in enumerate(classes) if c]
+    return [len(classes[:places[0]]), len(classes[places[-1] + 1:])] if places else [len(classes), 0]
+
+
 def counts(classes):
+    """The Rust's six in its order, then lead and tail (A.6)."""
     part = active(classes)
     total = sum(n for c, n, _ in runs(classes) if c == 0 and n >= 2) if part else 0
-    return [classes.count(k) for k in (1, 2, 3, 4)] + [total, part.count(0)]
+    return [classes.count(k) for k in (1, 2, 3, 4)] + [total, part.count(0)] + lead_and_tail(classes)
 
 
 def joined(tokens, most):

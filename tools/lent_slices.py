@@ -1,9 +1,9 @@
 #!/usr/bin/env python3
-"""Prints what the program `lent_slices` must print, worked out from the rules of document 01:
+"""Prints what the program `lent_slices` must print, worked out from the rules of documents 01 and 02:
 
     python3 tools/lent_slices.py > crates/lent_slices/stdout
 """
-from chart_rules import active, class_of, counts, run_symbol, runs, texts
+from chart_rules import active, class_of, counts, measures_of, run_symbol, runs, texts
 
 MOST = 1_048_576
 MODES = ["detailed", "partial", "simplified"]
@@ -15,14 +15,11 @@ CHARTS = [
     "16 16 0 20 20 0 0 0 16",
     "16 0 0 16 0 0 16 0 0 16 0 0 16",
     "0 15",
+    "0 0 0 16 0 20 0 0",
+    "15x12 32 0",
     "16x1000",
     "16x1048577",
 ]
-
-
-def measures_of(line):
-    items = [item.partition("x") for item in line.split()]
-    return [int(d) for d, _, k in items for _ in range(int(k or 1))]
 
 
 def refusal(questions):

@@ -119,6 +119,20 @@ RECORDS += [
 ]
 
 
+def between(lead, tail):
+    """Two runs, with so many breaks before and behind them."""
+    return chart(bytes(lead) + bytes([16, 0, 0, 20]) + bytes(tail))
+
+
+# Lead and tail (A.6): every chart of up to five measures of densities 0 and 16; long lead-ins and tails, one at a time and both.
+RECORDS += [chart(bytes(densities)) for size in range(6) for densities in product((0, 16), repeat=size)]
+RECORDS += [record for n in (9, 10, 99, 100, 999, 1000, 9999, 10000) for record in (between(n, 0), between(0, n))]
+RECORDS += [between(9, 10), between(100, 99), between(999, 1000)]
+# Records of 16,384 bytes: both, a lead-in of all measures but one, a tail of them, and no stream measure.
+RECORDS += [between(10000, 6373), between(6374, 9999)]
+RECORDS += [chart(bytes(16376) + b"\x20"), chart(b"\x20" + bytes(16376)), chart(b"\x0f" * 16377)]
+
+
 def main():
     with open("crates/sheet_cases/stdin", "wb") as out:
         for record in RECORDS:

@@ -13,7 +13,7 @@ mod rows;
 mod sn;
 #[path = "../../judge/src/streams.rs"]
 mod streams;
-use ours::{Counts, Lent, Library, LIBRARIES};
+use ours::{Lent, Library, LIBRARIES};
 use std::hint::black_box;
 use std::time::Instant;
 use streams::{RunDensity, Token};
@@ -34,14 +34,7 @@ fn same(m: &[u32]) -> (usize, usize) {
     let wide: Vec<usize> = m.iter().map(|&d| d as usize).collect();
     let mut tokens = Vec::new();
     let (c, sn, standard) = streams::compute_stream_outputs_with_scratch(&wide, &mut tokens);
-    let counts = Counts {
-        run16: c.run16_streams,
-        run20: c.run20_streams,
-        run24: c.run24_streams,
-        run32: c.run32_streams,
-        total_breaks: c.total_breaks,
-        sn_breaks: c.sn_breaks,
-    };
+    let counts = [c.run16_streams, c.run20_streams, c.run24_streams, c.run32_streams, c.total_breaks, c.sn_breaks];
     let texts = [sn.0, sn.1, sn.2, standard.0, standard.1, standard.2];
     let text = texts.concat();
     let (k, bytes) = (tokens.len(), text.len());
@@ -130,24 +123,6 @@ fn head(first: &[&str], others: &[String]) {
 
 type Work<'a> = Box<dyn FnMut() + 'a>;
 
-/// The charts one after the other, with roomy slices and with tight ones.
-fn works<'a>(library: &'a Library, charts: &'a [Vec<u32>], due: &[(usize, usize)]) -> [Work<'a>; 2] {
-    let mut roomy = Lent::roomy(charts[0].len());
-    let mut tight: Vec<Lent> = due.iter().map(|&(tokens, bytes)| Lent::new(tokens, bytes)).collect();
-    [
-        Box::new(move || {
-            for m in charts {
-                black_box(library.pass(black_box(m), &mut roomy));
-            }
-        }),
-        Box::new(move || {
-            for (m, lent) in charts.iter().zip(&mut tight) {
-                black_box(library.pass(black_box(m), lent));
-            }
-        }),
-    ]
-}
-
 /// Charts of one length.
 fn row(name: &str, charts: &[Vec<u32>]) {
     let due: Vec<(usize, usize)> = charts.iter().map(|m| same(m)).collect();
@@ -155,11 +130,11 @@ fn row(name: &str, charts: &[Vec<u32>]) {
     let mut scratch = Vec::new();
     let mut all: Vec<Work> = vec![Box::new(|| {
         for m in &wide {
-            black_box(streams::compute_stream_outputs_with_scratch(black_box(m), &mut scratch));
+            black_box(&streams::compute_stream_outputs_with_scratch(black_box(m), &mut scratch));
         }
     })];
     for library in LIBRARIES {
-        all.extend(works(library, charts, &due));
+        all.extend(library.works(charts, &due));
     }
     let tokens: usize = due.iter().map(|d| d.0).sum();
     let measures: usize = charts.iter().map(Vec::len).sum();
@@ -168,7 +143,7 @@ fn row(name: &str, charts: &[Vec<u32>]) {
 
 /// The charts whose name has the word.
 fn table(only: &str) {
-    println!("The same tokens, counts and texts on {} charts and on those below.\n", same_on_all());
+    println!("The same tokens, texts and six counts on {} charts and on those below.\n", same_on_all());
     println!("ns per measure, best (median) of the rounds; times faster than the Rust.\n");
     let slices = |library: &Library| ["roomy", "tight"].map(|slices| format!("{}, {slices} slices", library.name));
     head(&["chart", "tokens"], &LIBRARIES.iter().flat_map(slices).collect::<Vec<_>>());

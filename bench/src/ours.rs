@@ -1,4 +1,6 @@
 //! The proved calls. A slice is passed as pointer and length.
+use crate::Work;
+use std::hint::black_box;
 
 #[repr(C)]
 pub struct Written {
@@ -6,21 +8,11 @@ pub struct Written {
     pub length: usize,
 }
 
+/// What the pass answers. The counts are six numbers in a library from before request A.6, eight since.
 #[repr(C)]
-#[derive(Clone, Copy, Debug, PartialEq)]
-pub struct Counts {
-    pub run16: u32,
-    pub run20: u32,
-    pub run24: u32,
-    pub run32: u32,
-    pub total_breaks: u32,
-    pub sn_breaks: u32,
-}
-
-#[repr(C)]
-pub struct Answer {
+pub struct Answer<const N: usize> {
     pub refused: u32,
-    pub counts: Counts,
+    pub counts: [u32; N],
     pub tokens: usize,
     pub lengths: [usize; 6],
 }
@@ -31,19 +23,22 @@ pub struct RowsAnswer {
     pub measures: usize,
 }
 
+type Pass<const N: usize> = unsafe extern "C" fn(*const u32, usize, *mut u8, usize, *mut u32, usize, *mut u8, usize) -> Answer<N>;
+
 /// The calls of one build of the library.
 pub struct Library {
     pub name: &'static str,
     push_u64: unsafe extern "C" fn(*mut u8, usize, u64) -> Written,
     push_all: fn(&[u64], &mut [u8]),
-    pass: unsafe extern "C" fn(*const u32, usize, *mut u8, usize, *mut u32, usize, *mut u8, usize) -> Answer,
+    pass: fn(&[u32], &mut Lent) -> Answer<6>,
+    works: for<'a> fn(&'a [Vec<u32>], &[(usize, usize)]) -> [Work<'a>; 2],
 }
 
 // The sixth register would hold the second half of `lengths`, and Rust's pair starts behind it: so the slices are passed part by part.
 // In `push_all` each library has a loop of its own, which calls by name: of one loop that calls them all by address the processor predicts
 // the first best.
 macro_rules! library {
-    ($library:ident, $name:literal, $push_u64:ident, $pass:ident) => {
+    ($library:ident, $name:literal, $counts:expr, $push_u64:ident, $pass:ident) => {
         extern "C" {
             fn $push_u64(out: *mut u8, out_len: usize, n: u64) -> Written;
             fn $pass(
@@ -55,7 +50,7 @@ macro_rules! library {
                 lengths_len: usize,
                 out: *mut u8,
                 out_len: usize,
-            ) -> Answer;
+            ) -> Answer<{ $counts }>;
         }
 
         const $library: Library = Library {
@@ -68,14 +63,17 @@ macro_rules! library {
                     at += unsafe { $push_u64(rest.as_mut_ptr(), rest.len(), n) }.length;
                 }
             },
-            pass: $pass,
+            pass: |m, lent| first_six(call($pass, m, lent)),
+            works: |charts, due| works($pass, charts, due),
         };
     };
 }
 
-library!(OURS, "ours", pv_push_u64, pv_compute_stream_outputs);
+library!(OURS, "ours", 8, pv_push_u64, pv_compute_stream_outputs);
 #[cfg(before)]
-library!(BEFORE, "before", before_pv_push_u64, before_pv_compute_stream_outputs);
+const BEFORE_COUNTS: usize = if cfg!(six_counts_before) { 6 } else { 8 };
+#[cfg(before)]
+library!(BEFORE, "before", BEFORE_COUNTS, before_pv_push_u64, before_pv_compute_stream_outputs);
 
 /// That of the commit that `run.sh --before` names, if it does, and this one.
 pub const LIBRARIES: &[Library] = &[
@@ -121,21 +119,58 @@ impl Library {
         (self.push_all)(numbers, out);
     }
 
-    pub fn pass(&self, m: &[u32], lent: &mut Lent) -> Answer {
-        let Lent { classes, lengths, out } = lent;
-        unsafe {
-            (self.pass)(
-                m.as_ptr(),
-                m.len(),
-                classes.as_mut_ptr(),
-                classes.len(),
-                lengths.as_mut_ptr(),
-                lengths.len(),
-                out.as_mut_ptr(),
-                out.len(),
-            )
-        }
+    /// The pass, with the six counts that the Rust has.
+    pub fn pass(&self, m: &[u32], lent: &mut Lent) -> Answer<6> {
+        (self.pass)(m, lent)
     }
+
+    /// What is timed: the pass on one chart after the other, with roomy slices and with tight ones.
+    pub fn works<'a>(&self, charts: &'a [Vec<u32>], due: &[(usize, usize)]) -> [Work<'a>; 2] {
+        (self.works)(charts, due)
+    }
+}
+
+fn call<const N: usize>(pass: Pass<N>, m: &[u32], lent: &mut Lent) -> Answer<N> {
+    let Lent { classes, lengths, out } = lent;
+    unsafe {
+        pass(
+            m.as_ptr(),
+            m.len(),
+            classes.as_mut_ptr(),
+            classes.len(),
+            lengths.as_mut_ptr(),
+            lengths.len(),
+            out.as_mut_ptr(),
+            out.len(),
+        )
+    }
+}
+
+fn first_six<const N: usize>(answer: Answer<N>) -> Answer<6> {
+    Answer {
+        refused: answer.refused,
+        counts: std::array::from_fn(|i| answer.counts[i]),
+        tokens: answer.tokens,
+        lengths: answer.lengths,
+    }
+}
+
+/// No answer is copied, here and for the Rust: the time is to be that of the calls, however large their answers.
+fn works<'a, const N: usize>(pass: Pass<N>, charts: &'a [Vec<u32>], due: &[(usize, usize)]) -> [Work<'a>; 2] {
+    let mut roomy = Lent::roomy(charts[0].len());
+    let mut tight: Vec<Lent> = due.iter().map(|&(tokens, bytes)| Lent::new(tokens, bytes)).collect();
+    [
+        Box::new(move || {
+            for m in charts {
+                black_box(&call(pass, black_box(m), &mut roomy));
+            }
+        }),
+        Box::new(move || {
+            for (m, lent) in charts.iter().zip(&mut tight) {
+                black_box(&call(pass, black_box(m), lent));
+            }
+        }),
+    ]
 }
 
 pub fn read_note_rows(text: &[u8], densities: &mut [u32]) -> RowsAnswer {

@@ -1,7 +1,7 @@
-//! Stream breakdowns of dance game charts, by proved calls: the functions and types of `rssp-core`'s `streams`, over the
-//! static library `puvolamie_c`, a reader of note rows, and a converter from SN to standard detailed text. A chart of more than
-//! 1,048,576 measures, a run symbol for a break, and note rows and SN texts outside their rules or undecided are refused; nothing
-//! else is, and nothing panics.
+//! Stream breakdowns of dance game charts, by proved calls: the functions and types of `rssp-core`'s `streams`, with `lead` and
+//! `tail` more in its counts, over the static library `puvolamie_c`, a reader of note rows, and a converter from SN to standard
+//! detailed text. A chart of more than 1,048,576 measures, a run symbol for a break, and note rows and SN texts outside their
+//! rules or undecided are refused; nothing else is, and nothing panics.
 //!
 //! The functions here allocate their answers. Those of [`lent`] write into slices that the caller lends.
 

@@ -2,10 +2,10 @@
 
 use crate::*;
 
-/// Stretches (density, measures), counts in the original's order, and the seven texts, Total last.
+/// Stretches (density, measures), counts in the original's order, lead and tail last, and the seven texts, Total last.
 struct Chart {
     stretches: &'static [(usize, usize)],
-    counts: [u32; 6],
+    counts: [u32; 8],
     texts: [&'static str; 7],
 }
 
@@ -13,19 +13,19 @@ const NONE: &str = "No Streams!";
 
 #[rustfmt::skip]
 const CHARTS: [Chart; 13] = [
-    Chart { stretches: &[], counts: [0; 6], texts: ["", "", "", NONE, NONE, NONE, NONE] },
-    Chart { stretches: &[(15, 1)], counts: [0; 6], texts: ["", "", "", NONE, NONE, NONE, NONE] },
-    Chart { stretches: &[(16, 1)], counts: [1, 0, 0, 0, 0, 0], texts: ["1", "1", "1", "1", "1", "1", "1 Total"] },
-    Chart { stretches: &[(19, 1), (20, 1)], counts: [1, 1, 0, 0, 0, 0], texts: ["1 ~1~", "1 ~1~", "1 ~1~", "2", "2", "2", "2 Total"] },
-    Chart { stretches: &[(16, 1), (0, 1), (16, 1)], counts: [2, 0, 0, 0, 0, 1], texts: ["1 1", "3*", "3*", "1-1", "1-1", "3*", "2 Total"] },
-    Chart { stretches: &[(16, 1), (0, 4), (16, 1)], counts: [2, 0, 0, 0, 4, 4], texts: ["1 (4) 1", "1 - 1", "6*", "1 (4) 1", "1-1", "1-1", "2 Total"] },
-    Chart { stretches: &[(16, 1), (0, 5), (16, 1)], counts: [2, 0, 0, 0, 5, 5], texts: ["1 (5) 1", "1 / 1", "1 / 1", "1 (5) 1", "1/1", "1/1", "2 Total"] },
-    Chart { stretches: &[(16, 1), (0, 32), (16, 1)], counts: [2, 0, 0, 0, 32, 32], texts: ["1 (32) 1", "1 / 1", "1 / 1", "1 (32) 1", "1 | 1", "1 | 1", "2 Total"] },
-    Chart { stretches: &[(16, 1), (0, 33), (16, 1)], counts: [2, 0, 0, 0, 33, 33], texts: ["1 (33) 1", "1 | 1", "1 | 1", "1 (33) 1", "1 | 1", "1 | 1", "2 Total"] },
-    Chart { stretches: &[(32, 1), (0, 2), (16, 1)], counts: [1, 0, 0, 1, 2, 2], texts: ["=1= (2) 1", "=1= - 1", "=3=* 1", "1 (2) 1", "1-1", "1-1", "2 Total"] },
-    Chart { stretches: &[(0, 2), (16, 1)], counts: [1, 0, 0, 0, 2, 0], texts: ["1", "1", "1", "1", "1", "1", "1 Total"] },
-    Chart { stretches: &[(0, 1), (16, 1)], counts: [1, 0, 0, 0, 0, 0], texts: ["1", "1", "1", "1", "1", "1", "1 Total"] },
-    Chart { stretches: &[(16, 2), (0, 1), (20, 2), (0, 3), (16, 1)], counts: [3, 2, 0, 0, 3, 4], texts: ["2 ~2~ (3) 1", "2 ~2~ - 1", "2 ~5~* 1", "2-2 (3) 1", "2-2-1", "5*-1", "5 Total"] },
+    Chart { stretches: &[], counts: [0; 8], texts: ["", "", "", NONE, NONE, NONE, NONE] },
+    Chart { stretches: &[(15, 1)], counts: [0, 0, 0, 0, 0, 0, 1, 0], texts: ["", "", "", NONE, NONE, NONE, NONE] },
+    Chart { stretches: &[(16, 1)], counts: [1, 0, 0, 0, 0, 0, 0, 0], texts: ["1", "1", "1", "1", "1", "1", "1 Total"] },
+    Chart { stretches: &[(19, 1), (20, 1)], counts: [1, 1, 0, 0, 0, 0, 0, 0], texts: ["1 ~1~", "1 ~1~", "1 ~1~", "2", "2", "2", "2 Total"] },
+    Chart { stretches: &[(16, 1), (0, 1), (16, 1)], counts: [2, 0, 0, 0, 0, 1, 0, 0], texts: ["1 1", "3*", "3*", "1-1", "1-1", "3*", "2 Total"] },
+    Chart { stretches: &[(16, 1), (0, 4), (16, 1)], counts: [2, 0, 0, 0, 4, 4, 0, 0], texts: ["1 (4) 1", "1 - 1", "6*", "1 (4) 1", "1-1", "1-1", "2 Total"] },
+    Chart { stretches: &[(16, 1), (0, 5), (16, 1)], counts: [2, 0, 0, 0, 5, 5, 0, 0], texts: ["1 (5) 1", "1 / 1", "1 / 1", "1 (5) 1", "1/1", "1/1", "2 Total"] },
+    Chart { stretches: &[(16, 1), (0, 32), (16, 1)], counts: [2, 0, 0, 0, 32, 32, 0, 0], texts: ["1 (32) 1", "1 / 1", "1 / 1", "1 (32) 1", "1 | 1", "1 | 1", "2 Total"] },
+    Chart { stretches: &[(16, 1), (0, 33), (16, 1)], counts: [2, 0, 0, 0, 33, 33, 0, 0], texts: ["1 (33) 1", "1 | 1", "1 | 1", "1 (33) 1", "1 | 1", "1 | 1", "2 Total"] },
+    Chart { stretches: &[(32, 1), (0, 2), (16, 1)], counts: [1, 0, 0, 1, 2, 2, 0, 0], texts: ["=1= (2) 1", "=1= - 1", "=3=* 1", "1 (2) 1", "1-1", "1-1", "2 Total"] },
+    Chart { stretches: &[(0, 2), (16, 1)], counts: [1, 0, 0, 0, 2, 0, 2, 0], texts: ["1", "1", "1", "1", "1", "1", "1 Total"] },
+    Chart { stretches: &[(0, 1), (16, 1)], counts: [1, 0, 0, 0, 0, 0, 1, 0], texts: ["1", "1", "1", "1", "1", "1", "1 Total"] },
+    Chart { stretches: &[(16, 2), (0, 1), (20, 2), (0, 3), (16, 1)], counts: [3, 2, 0, 0, 3, 4, 0, 0], texts: ["2 ~2~ (3) 1", "2 ~2~ - 1", "2 ~5~* 1", "2-2 (3) 1", "2-2-1", "5*-1", "5 Total"] },
 ];
 
 fn measures(chart: &Chart) -> Vec<usize> {
@@ -35,14 +35,18 @@ fn measures(chart: &Chart) -> Vec<usize> {
         .collect()
 }
 
-fn counts([run16, run20, run24, run32, total_breaks, sn_breaks]: [u32; 6]) -> StreamCounts {
+fn counts(numbers: [u32; 8]) -> StreamCounts {
+    let [run16_streams, run20_streams, run24_streams, run32_streams, ..] = numbers;
+    let [.., total_breaks, sn_breaks, lead, tail] = numbers;
     StreamCounts {
-        run16_streams: run16,
-        run20_streams: run20,
-        run24_streams: run24,
-        run32_streams: run32,
+        run16_streams,
+        run20_streams,
+        run24_streams,
+        run32_streams,
         total_breaks,
         sn_breaks,
+        lead,
+        tail,
     }
 }
 
@@ -78,6 +82,30 @@ fn texts_and_counts_of_the_paper() {
             assert_eq!(stream_breakdown(&m, level).as_deref(), Ok(*text));
         }
     }
+}
+
+/// Breaks at a chart's ends are in `lead` and `tail`, or all in `lead`, and all measures add up.
+#[test]
+fn measures_before_and_after_the_active_part() {
+    for chart in &CHARTS {
+        for (before, behind) in [(0, 0), (1, 0), (0, 1), (2, 0), (0, 2), (3, 200), (200, 3)] {
+            let m = [vec![15; before], measures(chart), vec![15; behind]].concat();
+            let c = compute_stream_counts(&m).unwrap();
+            let own = counts(chart.counts);
+            let (lead, tail) = match chart.texts[0] {
+                "" => (m.len(), 0),
+                _ => (before + own.lead as usize, behind + own.tail as usize),
+            };
+            assert_eq!((c.lead as usize, c.tail as usize), (lead, tail));
+            let runs = c.run16_streams + c.run20_streams + c.run24_streams + c.run32_streams;
+            let sum = runs + c.sn_breaks + c.lead + c.tail;
+            assert_eq!(sum as usize, m.len());
+            assert_eq!(compute_stream_outputs(&m).unwrap().0, c);
+        }
+    }
+    let quiet = vec![15; MOST_MEASURES];
+    let due = counts([0, 0, 0, 0, 0, 0, MOST_MEASURES as u32, 0]);
+    assert_eq!(compute_stream_counts(&quiet), Ok(due));
 }
 
 #[test]
@@ -128,6 +156,7 @@ fn refusals_carry_the_questions_number() {
         Err(Refused(1))
     );
     assert_eq!(tokens, [Token::Break(7)]);
+    assert_eq!(compute_stream_counts(&many), Err(Refused(1)));
     assert_eq!(stream_sequences(&many), Err(Refused(1)));
     assert_eq!(stream_breakdowns(&many), Err(Refused(1)));
     assert_eq!(
@@ -174,7 +203,7 @@ fn record_view_and_label_of_case_12() {
     };
     assert_eq!(lent::read_chart_record(&record, &mut m), Ok(read));
     assert_eq!(m, [16, 16, 0, 20, 20, 0, 0, 0, 16, 7]);
-    assert!(print_sheet(&record).starts_with(b"A\n3 2 0 0 3 4\n2 ~2~ (3) 1\n"));
+    assert!(print_sheet(&record).starts_with(b"A\n3 2 0 0 3 4 0 0\n2 ~2~ (3) 1\n"));
     assert_eq!(print_sheet(&record[..2]), b"refused 8\n");
     assert_eq!(print_sheet(&record[..3]), b"refused 17\n");
     let m = &m[..9];

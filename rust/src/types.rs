@@ -1,4 +1,4 @@
-//! The types of the original, and the error that it lacks.
+//! The types of the original, and what it lacks: two of the counts, and the error.
 
 use std::error::Error;
 use std::fmt;
@@ -6,6 +6,8 @@ use std::fmt;
 /// The most measures that a chart has.
 pub const MOST_MEASURES: usize = 1_048_576;
 
+/// The original's counts, and the measures before and after the active part. The four run counts, `sn_breaks`, `lead` and `tail`
+/// add up to the number of measures.
 #[repr(C)]
 #[derive(Debug, Default, Clone, Copy, PartialEq, Eq)]
 pub struct StreamCounts {
@@ -15,6 +17,10 @@ pub struct StreamCounts {
     pub run32_streams: u32,
     pub total_breaks: u32,
     pub sn_breaks: u32,
+    /// Measures before the active part; all measures of a chart without a stream measure.
+    pub lead: u32,
+    /// Measures after the active part.
+    pub tail: u32,
 }
 
 #[derive(Debug, Clone, Copy, PartialEq, Eq, Hash)]

@@ -2,7 +2,7 @@
 -- Assumes nothing.
 use Prim.Native.Nat.{ℕ, zero, suc}
 use mathlib.Core.Path.{_≡_, refl, sym, ap, _∙_}
-use mathlib.Core.List.{List, _++_}
+use mathlib.Core.List.{List}
 use native.Mathlib.Omega.{arith}
 use lib.ListN.{length, take, drop}
 use lib.Seq.{take-append-seam}
@@ -24,12 +24,11 @@ use Rattle.label.specs.declared.LabelWritten.{LabelWritten}
 use Rattle.stream_outputs.specs.declared.StreamOutputs.{StreamOutputs}
 use Rattle.sn_to_standard.specs.Laws.{snText, standardText}
 use Rattle.sn_to_standard.proofs.Laws.{laws}
-use Rattle.record.specs.Record.{fieldsOf, nameOf}
-use Rattle.sheet_lines.specs.Sheet.{line, countsLine, textLines, sheetNo, sheetKinds, sheetBytes, chartOf, Printed}
+use Rattle.sheet_lines.specs.Sheet.{textLines, sheetNo, sheetKinds, chartOf, Printed}
 use Rattle.sheet_lines.specs.declared.Sheet.{Sheet}
-use Rattle.sheet_lines.proofs.Lines.{counts-line, one-line-name, sheet-lines}
+use Rattle.sheet_lines.proofs.Lines.{counts-line}
 use Rattle.acceptance.specs.SecondHalf.{nth, KindAt, afterLine, lineAt, TextWritten, single, three, pass, label, converted, sheet, SecondHalf}
-use Rattle.acceptance.proofs.Written.{marked-off, nth-text, after-line, line-text}
+use Rattle.acceptance.proofs.Written.{marked-off, nth-text, after-line, line-text, after-name}
 
 -- several texts end to end, refused by the number q or not
 several : (q : ℕ) (ks : List Kind) (i : ℕ) (k : Kind) (m old new ns zs : List ℕ) → KindAt ks i k → q ≡ 0 → ns ≡ accepted q (lengthsOf ks m) zs
@@ -70,13 +69,8 @@ printed-text : (i : ℕ) (k : Kind) (input : List ℕ) (r : Sheet) → KindAt sh
     → lineAt (suc (suc i)) (take (r .length) (r .bytes)) ≡ text k (chartOf input)
 printed-text i k input r h p e =
     let m = chartOf input in
-    let texts = textLines sheetKinds m in
-    let counted = line (countsLine (counts (classes m))) ++ texts in
-    let all : take (r .length) (r .bytes) ≡ line (nameOf (fieldsOf input)) ++ counted =
-    rw (p .answer) (take-append-seam (sheetBytes input) _) ∙ sheet-lines input e in
-    ap (lineAt (suc (suc i))) all
-    ∙ ap (λ (l : List ℕ). lineAt i (afterLine l)) (after-line counted (one-line-name input e))
-    ∙ ap (lineAt i) (after-line texts (counts-line (counts (classes m))))
+    ap (λ (l : List ℕ). lineAt i (afterLine l)) (after-name input r p e)
+    ∙ ap (lineAt i) (after-line (textLines sheetKinds m) (counts-line (counts (classes m))))
     ∙ line-text sheetKinds i k m h
 
 pub written-text : {k : Kind} {m x : List ℕ} → TextWritten k m x → x ≡ text k m

@@ -8,11 +8,15 @@ use lib.ListN.{length, take, drop}
 use lib.Seq.{take-append-seam, drop-append-seam}
 use Rattle.number.specs.Questions.{accepted, filled}
 use Rattle.number.proofs.Each.{none, _&_}
+use Rattle.rules.specs.Chart.{classes, counts}
 use Rattle.rules.specs.declared.Kind.{Kind}
 use Rattle.rules.specs.Texts.{text, endToEnd, lengthsOf}
 use Rattle.rules.proofs.Lines.{OneLine, text-line}
-use Rattle.sheet_lines.specs.Sheet.{line, textLines}
+use Rattle.sheet_lines.specs.Sheet.{line, countsLine, textLines, sheetNo, sheetKinds, chartOf, Printed}
+use Rattle.sheet_lines.specs.declared.Sheet.{Sheet}
+use Rattle.sheet_lines.proofs.Lines.{one-line-name, sheet-lines}
 use Rattle.acceptance.specs.SecondHalf.{nth, KindAt, firstLine, afterLine, lineAt}
+use Rattle.acceptance.proofs.Accepted.{all-accepted}
 
 -- a text at the slice's start, marked off by its length
 pub marked-off : (q : ℕ) (xs old new : List ℕ) (n : ℕ) → q ≡ 0 → n ≡ accepted q (length xs) 0 → new ≡ accepted q (filled old xs) old → take n new ≡ xs
@@ -41,3 +45,9 @@ pub line-text : (ks : List Kind) (i : ℕ) (k : Kind) (m : List ℕ) → KindAt 
 line-text [] i k m h = absurd h
 line-text (k ∷ ks) zero k′ m h = first-line (textLines ks m) (text-line k m) ∙ ap (λ (j : Kind). text j m) h
 line-text (k ∷ ks) (suc i) k′ m h = rw (after-line (textLines ks m) (text-line k m)) (line-text ks i k′ m h)
+
+-- what `sheet` prints behind the name
+pub after-name : (input : List ℕ) (r : Sheet) → Printed input r → sheetNo input ≡ 0
+    → afterLine (take (r .length) (r .bytes)) ≡ line (countsLine (counts (classes (chartOf input)))) ++ textLines sheetKinds (chartOf input)
+after-name input r p e =
+    ap afterLine (all-accepted .sheet input r p ∙ sheet-lines input e) ∙ after-line _ (one-line-name input e)

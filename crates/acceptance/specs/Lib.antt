@@ -3,3 +3,4 @@ pub mod Accepted
 pub mod FirstHalf
 pub mod SecondHalf
 pub mod Conversion
+pub mod EveryMeasure

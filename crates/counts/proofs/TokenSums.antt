@@ -9,13 +9,14 @@ use lib.Dec.{eqb, ltb}
 use lib.ListN.{length, length-drop, length-map}
 use borrow.Author.Tests.{eqb-true, ne-eqb}
 use Rattle.rules.specs.Chart.{classes, Token, token, class, len, leadIn, fromFirst, keep, toLast, active, runsFrom, runs, tokens}
-use Rattle.rules.specs.Chart.{count, streams, wideGaps, counts, noCounts}
+use Rattle.rules.specs.Chart.{classOf, tail, count, streams, wideGaps, counts}
 use Rattle.number.proofs.Split.{split}
 use Rattle.rules.specs.Slices.{paired, total}
 use Rattle.rules.proofs.Cost.{total-runs}
-use Rattle.counts.specs.Sums.{held, wideOf, Summed}
+use Rattle.rules.proofs.Ends.{parts-length}
+use Rattle.counts.specs.Sums.{held, wideOf, countsOf, Summed}
 use Rattle.counts.specs.declared.Sums.{Sums}
-use Rattle.measures.proofs.Part.{first-drop, part-within, active-length}
+use Rattle.measures.proofs.Part.{part-within, active-length}
 
 -- runs hold what the list has
 held-from : (c d n : ℕ) (cs : List ℕ) → held c (runsFrom d n cs) ≡ cond (eqb c d) n 0 + count c cs
@@ -121,13 +122,11 @@ tail-from [] zero n = let e : n + 0 ≡ n = omega arith in rw e (split (ltb n 2)
 tail-from [] (suc c) n = refl
 tail-from (d ∷ cs) c n = one-more cs c n d (toLast cs) (tail-from cs)
 
-tail-wide : (cs : List ℕ) → wideGaps (runs (fromFirst cs)) ≡ wideGaps (runs (active cs)) + wideOf (length (fromFirst cs) - length (active cs))
+tail-wide : (cs : List ℕ) → wideGaps (runs (fromFirst cs)) ≡ wideGaps (runs (active cs)) + wideOf (tail cs)
 unfolding active
 tail-wide [] = refl
 tail-wide (zero ∷ cs) = tail-wide cs
-tail-wide (suc c ∷ cs) =
-    let e : length cs - length (toLast cs) ≡ suc (length cs) - suc (length (toLast cs)) = omega arith in
-    rw (← e) (tail-from cs (suc c) 1)
+tail-wide (suc c ∷ cs) = rw (← (length-drop (length (toLast cs)) cs)) at (tail-from cs (suc c) 1)
 
 -- no sum is more than all measures
 pub held-most : (c : ℕ) (ts : List Token) → held c ts ≤ total ts
@@ -155,30 +154,23 @@ module _ {m : List ℕ} {lead : ℕ} {part : List ℕ} {s : Sums} (g : Summed m 
   unfolding tokens
   low = rw (g .held) (omega (arith, wide-most (runs (active cs)), total-runs (active cs), part-long))
 
-  -- the lead-in and the tail are gaps
-  total-wide : wideGaps (runs cs) ≡ wideGaps (runs (active cs)) + (wideOf lead + wideOf (length m - lead - length part))
-  total-wide =
-      let e : length (fromFirst cs) - length (active cs) ≡ length m - lead - length part =
-      rw (first-drop, ← (g .led .number), part-long) (simp (length-drop, length-map) refl) in
-      let w = rw e at (tail-wide cs) in
-      let l = rw (← (g .led .number)) at (lead-wide cs) in
-      omega (arith, l, w)
+  tail-number : length m - lead - length part ≡ tail cs
+  tail-number = let e = parts-length cs in omega (arith, e, length-map m classOf, g .led .number, part-long)
 
-  pub counted : 0 < length part → (e f : ℕ) → e ≡ wideOf lead → f ≡ wideOf (length m - lead - length part) →
-      record {
-        «run16_streams» = s .run16;
-        «run20_streams» = s .run20;
-        «run24_streams» = s .run24;
-        «run32_streams» = s .run32;
-        «total_breaks» = s .wide + (e + f);
-        «sn_breaks» = s .breaks;
-      } ≡ counts (classes m)
+  -- the lead-in and the tail are gaps
+  total-wide : wideGaps (runs cs) ≡ wideGaps (runs (active cs)) + (wideOf (leadIn cs) + wideOf (tail cs))
+  total-wide = omega (arith, lead-wide cs, tail-wide cs)
+
+  pub counted : 0 < length part → (e f t : ℕ) → e ≡ wideOf lead → f ≡ wideOf t → t ≡ length m - lead - length part
+      → countsOf s (s .wide + (e + f)) lead t ≡ counts (classes m)
   unfolding counts tokens
-  counted h e f ee ef =
+  counted h e f t ee ef et =
       rw (
         g .held,
         ee,
         ef,
+        et ∙ tail-number,
+        g .led .number,
         ← total-wide,
         some cs (rw part-long h),
         held-runs 1 (active cs),
@@ -192,12 +184,12 @@ module _ {m : List ℕ} {lead : ℕ} {part : List ℕ} {s : Sums} (g : Summed m 
         count-active 3 cs,
       )
 
-  pub uncounted : length part ≡ 0 → noCounts ≡ counts (classes m)
-  unfolding counts
-  uncounted h =
+  pub uncounted : length part ≡ 0 → (t : ℕ) → t ≡ length m - lead - length part → countsOf s 0 lead t ≡ counts (classes m)
+  unfolding counts tokens
+  uncounted h t et =
       let e : active cs ≡ [] = empty (active cs) (part-long ∙ h) in
       let z : (c : ℕ) → count (suc c) cs ≡ 0 = λ c. sym (count-active c cs) ∙ ap (count (suc c)) e in
-      rw (z 0, z 1, z 2, z 3, e, none cs (ap length e))
+      rw (g .held, et ∙ tail-number, g .led .number, z 0, z 1, z 2, z 3, none cs (ap length e), e)
 
 -- ---- no more runs than measures
 

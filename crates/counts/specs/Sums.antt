@@ -8,6 +8,7 @@ use lib.Dec.{eqb, ltb}
 use lib.ListN.{length}
 use Rattle.rules.specs.Chart.{classes, activePart, Token, token, tokens, wideGaps}
 use Rattle.measures.specs.Active.{LedIn}
+use Rattle.rules.specs.declared.StreamCounts.{StreamCounts}
 use Rattle.counts.specs.declared.Sums.{Sums}
 
 -- how many measures of class c some tokens hold
@@ -19,6 +20,20 @@ held c (token d n s ∷ ts) = cond (eqb c d) (n + held c ts) (held c ts)
 abbrev pub sumsOf : List Token → Sums
 sumsOf ts =
     record { run16 = held 1 ts; run20 = held 2 ts; run24 = held 3 ts; run32 = held 4 ts; breaks = held 0 ts; wide = wideGaps ts }
+
+-- counts, from such sums and what they leave out: all gaps of 2 or more, and the measures before and after the active part
+abbrev pub countsOf : Sums → ℕ → ℕ → ℕ → StreamCounts
+countsOf s breaks lead tail =
+    record {
+      «run16_streams» = s .run16;
+      «run20_streams» = s .run20;
+      «run24_streams» = s .run24;
+      «run32_streams» = s .run32;
+      «total_breaks» = breaks;
+      «sn_breaks» = s .breaks;
+      lead = lead;
+      tail = tail;
+    }
 
 -- what a gap of n adds to the gaps of 2 or more
 abbrev pub wideOf : ℕ → ℕ

@@ -7,10 +7,10 @@ use rules::StreamCounts;
 ghost use mathlib.Core.Path.{_≡_};
 ghost use mathlib.Core.Bool.{cond};
 ghost use lib.Dec.{ltb};
-ghost use Prim.Native.Nat.{_+_, _<_, _^_};
+ghost use Prim.Native.Nat.{_+_, _-_, _≤_, _<_, _^_};
 ghost use Rattle.rules.specs.Chart.{classes, runs, counts, noCounts};
 ghost use Rattle.measures.specs.Domain.{Domain};
-ghost use Rattle.counts.specs.Sums.{Wide, alone, sumsOf, Closed, Summed};
+ghost use Rattle.counts.specs.Sums.{Wide, alone, sumsOf, Closed, Summed, countsOf};
 ghost use Rattle.counts.specs.Promises.{countsAnswer};
 
 // What the counts call answers: the refusal's number, 0 where the chart is accepted, and the counts.
@@ -97,7 +97,7 @@ pub fn wide(n: u32) -> u32
     if n < 2 { 0 } else { n }
 }
 
-// The counts of a refused chart, and of one without a stream measure.
+// The counts of a refused chart.
 pub fn no_counts() -> StreamCounts
     ensures { λ r. ⌜ r ≡ noCounts ⌝ }
 {
@@ -108,26 +108,47 @@ pub fn no_counts() -> StreamCounts
         run32_streams: 0,
         total_breaks: 0,
         sn_breaks: 0,
+        lead: 0,
+        tail: 0,
     }
 }
 
-// The counts, from the lead-in, the active part and what its tokens hold. Lead-in and tail are gaps like those inside.
-pub fn counted(m: &[u32], lead: usize, part: &[u32], sums: Sums) -> StreamCounts
-    requires { ⌜ Summed (now m) lead (now part) sums ⌝ }
-    ensures { λ r. ⌜ r ≡ counts (classes (now (m .entry))) ⌝ }
+// The measures after an active part that has `part` measures behind the first `lead`.
+fn tail_of(measures: usize, lead: usize, part: usize) -> u32
+    requires { ⌜ (lead + part ≤ measures) × (measures ≤ 1048576) ⌝ }
+    ensures { λ r. ⌜ r ≡ measures - lead - part ⌝ }
 {
-    if part.len() == 0 {
-        return no_counts();
-    }
-    let tail = m.len() - lead - part.len();
+    (measures - lead - part) as u32
+}
+
+fn counts_of(sums: Sums, total_breaks: u32, lead: u32, tail: u32) -> StreamCounts
+    ensures { λ r. ⌜ r ≡ countsOf sums «total_breaks» lead tail ⌝ }
+{
     StreamCounts {
         run16_streams: sums.run16,
         run20_streams: sums.run20,
         run24_streams: sums.run24,
         run32_streams: sums.run32,
-        total_breaks: sums.wide + (wide(lead as u32) + wide(tail as u32)),
+        total_breaks,
         sn_breaks: sums.breaks,
+        lead,
+        tail,
     }
+}
+
+// The counts, from the lead-in, the active part and what its tokens hold. Lead-in and tail are gaps like those inside; without a stream
+// measure there is no gap, and all measures are in `lead`.
+pub fn counted(m: &[u32], lead: usize, part: &[u32], sums: Sums) -> StreamCounts
+    requires { ⌜ Summed (now m) lead (now part) sums ⌝ }
+    ensures { λ r. ⌜ r ≡ counts (classes (now (m .entry))) ⌝ }
+{
+    let before = lead as u32;
+    let after = tail_of(m.len(), lead, part.len());
+    if part.len() == 0 {
+        return counts_of(sums, 0, before, after);
+    }
+    let ends = wide(before) + wide(after);
+    counts_of(sums, sums.wide + ends, before, after)
 }
 
 // The counts of a chart of the domain.

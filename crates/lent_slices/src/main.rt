@@ -114,6 +114,15 @@ fn print_chart(line: &[u8], m: &[u32]) {
     print_passes(m);
 }
 
+// Charts with a lead-in and a tail.
+fn print_with_ends() {
+    print_chart(b"chart 0 0 0 16 0 20 0 0\n", &[0, 0, 0, 16, 0, 20, 0, 0]);
+    print_chart(
+        b"chart 15x12 32 0\n",
+        &[15, 15, 15, 15, 15, 15, 15, 15, 15, 15, 15, 15, 32, 0],
+    );
+}
+
 // One measure more than the domain has.
 fn print_too_many(m: &[u32; 1048577]) {
     print_chart(b"chart 16x1048577\n", m);
@@ -133,6 +142,7 @@ fn main() {
         &[16, 0, 0, 16, 0, 0, 16, 0, 0, 16, 0, 0, 16],
     );
     print_chart(b"chart 0 15\n", &[0, 15]);
+    print_with_ends();
     print_chart(b"chart 16x1000\n", &[16; 1000]);
     print_too_many(&[16; 1048577]);
 }

@@ -89,6 +89,8 @@ fn print_counts(counts: StreamCounts) {
     print_number(counts.run32_streams as u64);
     print_number(counts.total_breaks as u64);
     print_number(counts.sn_breaks as u64);
+    print_number(counts.lead as u64);
+    print_number(counts.tail as u64);
 }
 
 fn wide(x: u8) -> u64 {

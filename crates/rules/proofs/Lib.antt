@@ -4,6 +4,7 @@ pub mod Words
 pub mod Shape
 pub mod Exact
 pub mod Places
+pub mod Ends
 pub mod Steps
 pub mod Pairs
 pub mod View

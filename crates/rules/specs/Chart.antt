@@ -37,7 +37,7 @@ classNumber Run20 = 2
 classNumber Run24 = 3
 classNumber Run32 = 4
 
--- Lead-in: how many breaks stand before the first stream measure
+-- Lead-in: how many breaks stand before the first stream measure, or all of them if there is none
 abbrev pub leadIn : List ℕ → ℕ
 leadIn [] = zero
 leadIn (zero ∷ cs) = suc (leadIn cs)
@@ -63,6 +63,10 @@ toLast (c ∷ cs) = keep c (toLast cs)
 -- Active part: first to last stream measure, both included; empty if there is none
 unfoldable pub active : List ℕ → List ℕ
 active cs = toLast (fromFirst cs)
+
+-- Tail: how many measures stand after the active part
+abbrev pub tail : List ℕ → ℕ
+tail cs = length (drop (length (active cs)) (fromFirst cs))
 
 -- the active part of the chart's own densities
 unfoldable pub activePart : List ℕ → List ℕ
@@ -117,7 +121,8 @@ wideGaps [] = zero
 wideGaps (token zero n s ∷ ts) = cond (ltb n 2) (wideGaps ts) (n + wideGaps ts)
 wideGaps (token (suc c) n s ∷ ts) = wideGaps ts
 
--- Counts: the whole chart's runs have the lead-in and the tail as gaps; without a stream measure all six are 0
+-- Counts: the whole chart's runs have the lead-in and the tail as gaps; without a stream measure total_breaks is 0. Lead and tail (document 02, A.6):
+-- the measures before and after the active part; a stream-free chart has all its measures in lead
 unfoldable pub counts : List ℕ → StreamCounts
 counts cs =
     record {
@@ -127,13 +132,25 @@ counts cs =
       «run32_streams» = count 4 cs;
       «total_breaks» = cond (eqb (streams cs) 0) 0 (wideGaps (runs cs));
       «sn_breaks» = count 0 (active cs);
+      lead = leadIn cs;
+      tail = tail cs;
     }
 
--- run16 run20 run24 run32 total_breaks sn_breaks
+-- run16 run20 run24 run32 total_breaks sn_breaks lead tail
 abbrev pub countNumbers : StreamCounts → List ℕ
-countNumbers c = c .«run16_streams» ∷ c .«run20_streams» ∷ c .«run24_streams» ∷ c .«run32_streams» ∷ c .«total_breaks» ∷ c .«sn_breaks» ∷ []
+countNumbers c =
+    c .«run16_streams» ∷ c .«run20_streams» ∷ c .«run24_streams» ∷ c .«run32_streams» ∷ c .«total_breaks» ∷ c .«sn_breaks» ∷ c .lead ∷ c .tail ∷ []
 
 -- the counts of a refused chart
 abbrev pub noCounts : StreamCounts
 noCounts =
-    record { «run16_streams» = 0; «run20_streams» = 0; «run24_streams» = 0; «run32_streams» = 0; «total_breaks» = 0; «sn_breaks» = 0 }
+    record {
+      «run16_streams» = 0;
+      «run20_streams» = 0;
+      «run24_streams» = 0;
+      «run32_streams» = 0;
+      «total_breaks» = 0;
+      «sn_breaks» = 0;
+      lead = 0;
+      tail = 0;
+    }

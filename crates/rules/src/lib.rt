@@ -1,6 +1,6 @@
 // The types of the answers, which the rules in specs/ speak of. No code: the rules are in specs/, the laws about them in proofs/.
 
-// Counts, in the Rust's order.
+// Counts, in the Rust's order; behind them the measures before and after the active part.
 #[repr(C)]
 pub struct StreamCounts {
     pub run16_streams: u32,
@@ -9,6 +9,8 @@ pub struct StreamCounts {
     pub run32_streams: u32,
     pub total_breaks: u32,
     pub sn_breaks: u32,
+    pub lead: u32,
+    pub tail: u32,
 }
 
 // Class of a measure.

@@ -26,7 +26,8 @@ fn print_all(list: &[u8]) {
 }
 
 fn main() {
-    let mut space = io::large_buffer();
+    // Room for the whole list.
+    let mut space = [0u8; 524288];
     let count = io::read_full(STDIN_FILENO, &mut space);
     print_all(&space[..count]);
 }

@@ -11,11 +11,12 @@ use Rattle.number.proofs.Digits.{at-most}
 use Rattle.number.proofs.Each.{Each, none, _&_}
 use Rattle.number.proofs.Split.{split}
 use Rattle.rules.specs.Bytes.{bytes}
-use Rattle.rules.specs.Chart.{classOf, classes, Token, token, runs, active, count, streams, wideGaps, counts, countNumbers}
+use Rattle.rules.specs.Chart.{classOf, classes, leadIn, active, tail, Token, token, runs, count, streams, wideGaps, counts, countNumbers}
 use Rattle.rules.specs.declared.Kind.{Kind}
 use Rattle.rules.specs.Texts.{text, endToEnd, lengthsOf}
 use Rattle.rules.specs.Slices.{total}
 use Rattle.rules.proofs.Cost.{total-runs, active-short}
+use Rattle.rules.proofs.Ends.{parts-length}
 use Rattle.sheet_lines.specs.Sheet.{line, partedBySpaces, countsLine, textLines}
 use Rattle.sheet_lines.specs.Steps.{sum}
 
@@ -34,6 +35,13 @@ breaks-few : (cs : List ℕ) → counts cs .«total_breaks» ≤ length cs
 unfolding counts
 breaks-few cs = split (eqb (streams cs) 0) (λ e. rw e (omega arith)) (λ e. rw e (omega (arith, wide-few (runs cs), total-runs cs)))
 
+module _ (cs : List ℕ) where
+  lead-few : leadIn cs ≤ length cs
+  lead-few = omega (arith, parts-length cs)
+
+  tail-few : tail cs ≤ length cs
+  tail-few = omega (arith, parts-length cs)
+
 abbrev Few : ℕ → Type 0
 Few n = n ≤ 1048576
 
@@ -46,6 +54,8 @@ counts-few cs h =
     & few (count-few 4 cs) h
     & few (breaks-few cs) h
     & few (few (count-few 0 (active cs)) (active-short cs)) h
+    & few (lead-few cs) h
+    & few (tail-few cs) h
     & none
   where
     few : {n k l : ℕ} → n ≤ k → k ≤ l → n ≤ l
@@ -63,7 +73,7 @@ line-length : (xs : List ℕ) → length (line xs) ≡ length xs + 1
 line-length xs = length-append xs (10 ∷ [])
 
 module _ (m : List ℕ) where
-  pub counts-short : length m ≤ 1048576 → length (line (countsLine (counts (classes m)))) ≤ 49
+  pub counts-short : length m ≤ 1048576 → length (line (countsLine (counts (classes m)))) ≤ 65
   counts-short h =
       let few = counts-few (classes m) (omega (arith, length-map m classOf)) in
       omega (arith, line-length (countsLine (counts (classes m))), spaced-short (countNumbers (counts (classes m))) few)

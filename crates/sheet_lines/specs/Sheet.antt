@@ -67,7 +67,7 @@ partedBySpaces [] = []
 partedBySpaces (n ∷ []) = digits n
 partedBySpaces (n ∷ k ∷ ns) = digits n ++ (bytes " " ++ partedBySpaces (k ∷ ns))
 
--- run16 run20 run24 run32 total_breaks sn_breaks
+-- run16 run20 run24 run32 total_breaks sn_breaks lead tail
 abbrev pub countsLine : StreamCounts → List ℕ
 countsLine c = partedBySpaces (countNumbers c)
 

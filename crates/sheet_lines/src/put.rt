@@ -44,7 +44,7 @@ fn put_numbers(out: &mut [u8], at: usize, numbers: &[u32]) -> usize
 }
 
 // The counts in the order of their line.
-fn count_numbers(counts: StreamCounts) -> [u32; 6]
+fn count_numbers(counts: StreamCounts) -> [u32; 8]
     ensures { λ r. ⌜ r ≡ countNumbers counts ⌝ }
 {
     [
@@ -54,6 +54,8 @@ fn count_numbers(counts: StreamCounts) -> [u32; 6]
         counts.run32_streams,
         counts.total_breaks,
         counts.sn_breaks,
+        counts.lead,
+        counts.tail,
     ]
 }
 

@@ -135,8 +135,8 @@ fn other_class(random: &mut Random, last: usize, run: bool) -> usize {
     }
 }
 
-/// Charts of a length at the domain's edge: quiet, one run, one stream measure behind a lead-in, one gap, alternating classes, runs and
-/// gaps of 1 and 2, and random ones.
+/// Charts of a length at the domain's edge: quiet, one run, one stream measure behind a lead-in, one before a tail, one gap,
+/// alternating classes, runs and gaps of 1 and 2, and random ones.
 pub fn long(random: &mut Random, length: usize) -> Vec<Vec<usize>> {
     let cycle = |items: &[usize]| items.iter().copied().cycle().take(length).collect();
     let mut mixed = Vec::new();
@@ -146,6 +146,8 @@ pub fn long(random: &mut Random, length: usize) -> Vec<Vec<usize>> {
     mixed.truncate(length);
     let mut led_in = vec![0; length];
     led_in[length - 1] = 24;
+    let mut with_tail = vec![0; length];
+    with_tail[0] = 20;
     let mut one_gap = led_in.clone();
     one_gap[0] = 16;
     let scattered = (0..length).map(|_| random.one_of(&SMALL)).collect();
@@ -153,6 +155,7 @@ pub fn long(random: &mut Random, length: usize) -> Vec<Vec<usize>> {
         cycle(&[0]),
         cycle(&[32]),
         led_in,
+        with_tail,
         one_gap,
         cycle(&[16, 20]),
         cycle(&[24, 0]),

@@ -46,6 +46,7 @@ fn class_and_length(token: &Token) -> (u8, u32) {
 
 pub fn compare(m: &[usize], original: &Original, tally: &mut Tally) -> Outcome {
     let m = &densities(m);
+    counts(m, original, tally)?;
     read_off(m, original, tally)?;
     one_text(m, original, tally)?;
     three_texts(m, original, tally)?;
@@ -58,6 +59,7 @@ pub fn compare(m: &[usize], original: &Original, tally: &mut Tally) -> Outcome {
 pub fn compare_just_due(m: &[usize], original: &Original, tally: &mut Tally) -> Outcome {
     let m = &densities(m);
     let due = due_of(original);
+    counts(m, original, tally)?;
     segments(m, original, &[original.segments.len()], tally)?;
     pass(
         m,
@@ -79,6 +81,17 @@ pub fn compare_just_due(m: &[usize], original: &Original, tally: &mut Tally) -> 
         [due.classes.len(), due.lengths.len(), due.text.len() - 1],
         tally,
     )
+}
+
+/// Counts, of this chart and of the one that has the least density of each measure's class.
+fn counts(m: &[u32], original: &Original, tally: &mut Tally) -> Outcome {
+    let due = Ok(original.counts);
+    let ours = lent::compute_stream_counts(m);
+    tally.same("lent compute_stream_counts", ours, due)?;
+    let least = |&d: &u32| [32, 24, 20, 16].into_iter().find(|&least| least <= d);
+    let same_classes: Vec<u32> = m.iter().map(|d| least(d).unwrap_or(0)).collect();
+    let ours = lent::compute_stream_counts(&same_classes);
+    tally.same("counts of equal classes", ours, due)
 }
 
 /// Active part, share, alike, and tokens of the whole chart by the view and by number.

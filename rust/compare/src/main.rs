@@ -1,6 +1,6 @@
 //! Compares the crate with the unchanged original: counts, segments, tokens and the seven texts by every call, and the places
-//! of lent slices that must not change. The original has no reader of chart records or of note rows and no converter of SN
-//! texts; those are compared with plain ones.
+//! of lent slices that must not change. The original has no lead and no tail in its counts, no reader of chart records or of
+//! note rows, and no converter of SN texts; those are compared with plain ones.
 //!
 //! compare [--quick] [SEED]
 
@@ -15,6 +15,7 @@ mod note_rows;
 mod numbers;
 mod original;
 mod owned;
+mod plain_ends;
 mod plain_record;
 mod plain_rows;
 mod plain_sn_to_standard;
@@ -56,7 +57,7 @@ const FULL: Extent = Extent {
     scattered: 500_000,
     lent_every: 10,
     counted: 300,
-    long: 9,
+    long: 10,
     rows: note_rows::Extent {
         small: 8,
         short: 1_000_000,

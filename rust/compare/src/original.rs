@@ -1,5 +1,6 @@
-//! What the original answers, in the crate's types.
+//! What the original answers, in the crate's types. It has no lead and no tail; they are worked out by a plain rule.
 
+use crate::plain_ends;
 use crate::streams;
 use puvolamie::{RunDensity, StreamCounts, StreamSegment, Texts, Token};
 
@@ -48,7 +49,7 @@ pub const CLASSES: [(RunDensity, streams::RunDensity); 5] = [
     (RunDensity::Run32, streams::RunDensity::Run32),
 ];
 
-/// Counts, segments, tokens of the whole chart and of the active part, and the texts: SN, standard, and Total.
+/// Counts, with lead and tail, segments, tokens of the whole chart and of the active part, and the texts: SN, standard, and Total.
 pub struct Original {
     pub counts: StreamCounts,
     pub segments: Vec<StreamSegment>,
@@ -64,7 +65,7 @@ impl Original {
     pub fn of(m: &[usize]) -> Result<Original, String> {
         let (counts, tokens) = streams::counts_and_tokens(m);
         let original = Original {
-            counts: counts_of(counts),
+            counts: counts_of(counts, plain_ends::lead_and_tail(m)),
             segments: streams::stream_sequences(m)
                 .into_iter()
                 .map(segment_of)
@@ -117,7 +118,7 @@ impl Original {
     }
 }
 
-fn counts_of(c: streams::StreamCounts) -> StreamCounts {
+fn counts_of(c: streams::StreamCounts, (lead, tail): (u32, u32)) -> StreamCounts {
     StreamCounts {
         run16_streams: c.run16_streams,
         run20_streams: c.run20_streams,
@@ -125,6 +126,8 @@ fn counts_of(c: streams::StreamCounts) -> StreamCounts {
         run32_streams: c.run32_streams,
         total_breaks: c.total_breaks,
         sn_breaks: c.sn_breaks,
+        lead,
+        tail,
     }
 }
 

@@ -2,18 +2,13 @@
 
 use crate::original::{Original, LEVELS, MODES};
 use crate::tally::{Outcome, Tally};
-use puvolamie::Token;
+use puvolamie::{StreamCounts, Token};
 
 pub fn compare(m: &[usize], original: &Original, tally: &mut Tally) -> Outcome {
     pass(m, original, tally)?;
-    let (counts, segments) = (original.counts, &original.segments);
-    tally.same(
-        "compute_stream_counts",
-        puvolamie::compute_stream_counts(m),
-        Ok(counts),
-    )?;
+    counts(m, original, tally)?;
     let ours = puvolamie::stream_sequences(m);
-    tally.same("stream_sequences", ours.as_ref(), Ok(segments))?;
+    tally.same("stream_sequences", ours.as_ref(), Ok(&original.segments))?;
     let (sn, standard) = (original.sn_texts(), original.standard_texts());
     let ours = puvolamie::generate_breakdowns(m);
     tally.same("generate_breakdowns", ours, Ok(sn))?;
@@ -28,6 +23,25 @@ pub fn compare(m: &[usize], original: &Original, tally: &mut Tally) -> Outcome {
         tally.same("stream_breakdown", ours.as_ref(), Ok(text))?;
     }
     Ok(())
+}
+
+/// Counts; all but `total_breaks` add up to the number of measures.
+fn counts(m: &[usize], original: &Original, tally: &mut Tally) -> Outcome {
+    let ours = puvolamie::compute_stream_counts(m);
+    tally.same("compute_stream_counts", ours, Ok(original.counts))?;
+    let sum = ours.map(measures_in);
+    tally.same("the sum of the counts", sum, Ok(m.len()))
+}
+
+fn measures_in(c: StreamCounts) -> usize {
+    let runs = [
+        c.run16_streams,
+        c.run20_streams,
+        c.run24_streams,
+        c.run32_streams,
+    ];
+    let others = [c.sn_breaks, c.lead, c.tail];
+    runs.into_iter().chain(others).map(|n| n as usize).sum()
 }
 
 /// The pass, with and without the caller's tokens.

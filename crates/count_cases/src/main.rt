@@ -1,0 +1,25 @@
+// Prints, for each chart of a list, the counts by their own call and by the pass, each behind the refusal's number: one line a chart.
+mod answers;
+
+use answers::print_answers;
+use chart_list::read::next_chart;
+use libc::STDIN_FILENO;
+
+fn print_all(list: &[u8]) {
+    // One measure more than the domain has.
+    let mut measures = [0u32; 1048577];
+    let mut at = 0;
+    while at < list.len() {
+        let chart = next_chart(list, at, &mut measures);
+        let count = chart.measures;
+        print_answers(&measures[..count]);
+        at = chart.next;
+    }
+}
+
+fn main() {
+    // Room for the whole list.
+    let mut space = [0u8; 262144];
+    let length = io::read_full(STDIN_FILENO, &mut space);
+    print_all(&space[..length]);
+}
