@@ -11,11 +11,12 @@ use lib.ListN.{length, length-append}
 use borrow.Author.Tests.{ltb-false, leb-false, eqb-false}
 use Rattle.number.specs.Digits.{digitsIn, digits}
 use Rattle.rules.specs.Bytes.{bytes}
-use Rattle.rules.specs.Chart.{fromFirst, keep, toLast, active, Token, token, class, len, runsFrom, runs}
+use Rattle.rules.specs.Chart.{active, Token, token, class, len, runsFrom, runs}
 use Rattle.rules.specs.Slices.{total}
 use Rattle.rules.specs.Reduced.{Item, run, gap, item, signOf, joins, joinFrom, join, short, absorb, dropOnes}
 use Rattle.rules.specs.Texts.{mark, word, part, strung}
 use Rattle.number.proofs.Split.{split}
+use Rattle.rules.proofs.Ends.{parts-length}
 use Rattle.number.proofs.Each.{Each, none, _&_}
 
 -- ---- a number has at most as many digits as it counts, and fewer from 2 on
@@ -93,23 +94,8 @@ pub total-runs : (cs : List ℕ) → total (runs cs) ≡ length cs
 total-runs [] = refl
 total-runs (c ∷ cs) = total-from c 1 cs ∙ omega arith
 
-keep-short : (c : ℕ) (cs : List ℕ) → length (keep c cs) ≤ suc (length cs)
-keep-short zero [] = omega arith
-keep-short zero (d ∷ cs) = omega arith
-keep-short (suc c) cs = omega arith
-
-last-short : (cs : List ℕ) → length (toLast cs) ≤ length cs
-last-short [] = omega arith
-last-short (c ∷ cs) = omega (arith, keep-short c (toLast cs), last-short cs)
-
-first-short : (cs : List ℕ) → length (fromFirst cs) ≤ length cs
-first-short [] = omega arith
-first-short (zero ∷ cs) = omega (arith, first-short cs)
-first-short (suc c ∷ cs) = omega arith
-
 pub active-short : (cs : List ℕ) → length (active cs) ≤ length cs
-unfolding active
-active-short cs = omega (arith, first-short cs, last-short (fromFirst cs))
+active-short cs = omega (arith, parts-length cs)
 
 total-cons : (t : Token) (ts : List Token) → total (t ∷ ts) ≡ len t + total ts
 total-cons (token c n s) ts = refl
