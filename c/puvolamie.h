@@ -42,6 +42,7 @@ enum {
     PV_PAYLOAD_CUT = 17,        /* The whole payload present? Asked straight after 8 for the same field. */
     PV_BAD_SN_TEXT = 18,        /* Runs and breaks by the rules, with at most PV_MOST_MEASURES measures? */
     PV_UNDECIDED = 19,          /* Is each gap decided, no two neighbouring runs having different classes? */
+    PV_WIDTH_TOO_LARGE = 20,    /* A width of at most 20? Asked first. */
     PV_NO_SUCH_NUMBER = 100     /* Does the number stand for a mode, or a level? Asked first. */
 };
 
@@ -160,8 +161,8 @@ typedef struct { /* bytes to print: the first `length` of them */
     size_t length;
 } pv_sheet;
 
-/* A number in base ten, at most 20 bytes. Question 4. */
-pv_written pv_push_u64(uint8_t *out, size_t out_length, uint64_t n);
+/* A number in base ten, with spaces before it where it has fewer digits than the width; at most 20 bytes. Questions 20, 4. */
+pv_written pv_push_u64(uint8_t *out, size_t out_length, uint64_t n, uint32_t width);
 
 /* The class of a density, 0 to 4. */
 uint32_t pv_categorize_measure_density(uint32_t density);
@@ -171,6 +172,10 @@ pv_range pv_active_range(const uint32_t *m, size_t m_length);
 
 /* Counts. The four run counts, sn_breaks, lead and tail of an accepted chart add up to m_length. Question 1. */
 pv_counts_answer pv_compute_stream_counts(const uint32_t *m, size_t m_length);
+
+/* The counts line for boards: the eight counts in the order of pv_counts, each at width 7, parted by one space, ended by 0A. It has
+ * 64 bytes for every accepted chart. Questions 1, 4. */
+pv_written pv_board_counts(const uint32_t *m, size_t m_length, uint8_t *out, size_t out_length);
 
 /* 10,000 x s / (s + sn_breaks), rounded down, s the stream measures; at most 10,000. Questions 1, 7. */
 pv_share_answer pv_share(const uint32_t *m, size_t m_length);

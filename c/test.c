@@ -2,6 +2,7 @@
 #include "layout.h"
 #include "puvolamie.h"
 
+#include <inttypes.h>
 #include <stdio.h>
 #include <stdlib.h>
 #include <string.h>
@@ -67,6 +68,23 @@ static bool wrote_segments(size_t count)
 static bool same_text(const uint8_t *bytes, size_t length, const char *expected)
 {
     return length == strlen(expected) && memcmp(bytes, expected, length) == 0;
+}
+
+static void expect_refused_text(pv_written r, uint32_t number, const char *what)
+{
+    expect(r.refused == number && r.length == 0, what);
+    expect(wrote(0, 0), "a refused text writes nothing");
+}
+
+/* Of a call that was lent `room` bytes: the text due if they are enough, else the refusal 4. */
+static void expect_text(pv_written r, size_t room, const char *due, const char *what)
+{
+    if (room < strlen(due)) {
+        expect_refused_text(r, PV_TEXT_TOO_SHORT, "a short text array is refused");
+    } else {
+        expect(r.refused == PV_ACCEPTED && same_text(text, r.length, due), what);
+        expect(wrote(strlen(due), 0), "later bytes are unchanged");
+    }
 }
 
 /* ---- the paper's charts */
@@ -151,17 +169,9 @@ static pv_written write_text(int kind, size_t room)
 
 static void test_text(const struct chart *chart, int kind)
 {
-    size_t due = strlen(chart->texts[kind]);
-    for (size_t room = 0; room <= due + 3; room++) {
-        pv_written r = write_text(kind, room);
-        if (room < due) {
-            expect(r.refused == PV_TEXT_TOO_SHORT && r.length == 0, "a short text array is refused");
-            expect(wrote(0, 0), "a refused text writes nothing");
-        } else {
-            expect(r.refused == PV_ACCEPTED && same_text(text, r.length, chart->texts[kind]), "one text");
-            expect(wrote(due, 0), "later bytes are unchanged");
-        }
-    }
+    const char *due = chart->texts[kind];
+    for (size_t room = 0; room <= strlen(due) + 3; room++)
+        expect_text(write_text(kind, room), room, due, "one text");
 }
 
 static void test_three(const struct chart *chart, int first)
@@ -247,7 +257,26 @@ static size_t measures_in(pv_counts c)
     return (size_t)c.run16_streams + c.run20_streams + c.run24_streams + c.run32_streams + c.sn_breaks + c.lead + c.tail;
 }
 
-/* Counts by both calls: those due, or all 0 where there are too many measures. */
+/* The counts line for boards, by the counts of the same measures. */
+static void expect_board_counts(const uint32_t *measures, size_t length, pv_counts c)
+{
+    static const size_t rooms[] = {0, 63, 64, 70};
+    char due[128];
+    int bytes = snprintf(due, sizeof due,
+        "%7" PRIu32 " %7" PRIu32 " %7" PRIu32 " %7" PRIu32 " %7" PRIu32 " %7" PRIu32 " %7" PRIu32 " %7" PRIu32 "\n",
+        c.run16_streams, c.run20_streams, c.run24_streams, c.run32_streams, c.total_breaks, c.sn_breaks, c.lead, c.tail);
+    expect(bytes == 64, "the counts line for boards has 64 bytes");
+    for (size_t i = 0; i < sizeof rooms / sizeof rooms[0]; i++) {
+        lend();
+        pv_written r = pv_board_counts(measures, length, text, rooms[i]);
+        if (length > PV_MOST_MEASURES)
+            expect_refused_text(r, PV_TOO_MANY_MEASURES, "no counts line for boards of too many measures");
+        else
+            expect_text(r, rooms[i], due, "the counts line for boards");
+    }
+}
+
+/* Counts by both calls: those due, or all 0 where there are too many measures; and their line for boards. */
 static void expect_counts(const uint32_t *measures, size_t length, pv_counts due)
 {
     const pv_counts none = {0, 0, 0, 0, 0, 0, 0, 0};
@@ -260,6 +289,7 @@ static void expect_counts(const uint32_t *measures, size_t length, pv_counts due
     expect(r.refused == number && same_counts(r.counts, accepted ? due : none), "counts of the pass");
     expect(measures_in(c.counts) == (accepted ? length : 0), "the counts add up to the measures");
     expect(measures_in(r.counts) == (accepted ? length : 0), "the counts of the pass add up to the measures");
+    expect_board_counts(measures, length, c.counts);
 }
 
 static uint32_t wide(uint32_t gap)
@@ -434,20 +464,55 @@ static void test_chart(const struct chart *chart)
 
 /* ---- calls on no chart */
 
+/* At every width; in slices that are one byte short, exact and longer. */
+static void check_number(uint64_t n)
+{
+    for (uint32_t width = 0; width <= 20; width++) {
+        char due[32];
+        size_t length = (size_t)snprintf(due, sizeof due, "%*" PRIu64, (int)width, n);
+        for (size_t room = length - 1; room <= length + 3; room++) {
+            lend();
+            expect_text(pv_push_u64(text, room, n, width), room, due, "a number");
+        }
+    }
+}
+
+/* The least and the most number of each number of digits, and those around 2^32. */
 static void test_numbers(void)
 {
-    const uint64_t numbers[] = {0, 9, 10, 99, 100, 4294967295u, 4294967296u, 9999999999999999999u, 10000000000000000000u, UINT64_MAX};
+    const uint64_t numbers[] = {0, 4294967295u, 4294967296u, UINT64_MAX};
+    uint64_t power = 1;
     chart_name = "none: numbers";
-    for (size_t i = 0; i < sizeof numbers / sizeof numbers[0]; i++) {
-        char due[32];
-        size_t length = (size_t)sprintf(due, "%llu", (unsigned long long)numbers[i]);
-        lend();
-        pv_written r = pv_push_u64(text, length, numbers[i]);
-        expect(r.refused == PV_ACCEPTED && same_text(text, r.length, due) && wrote(length, 0), "a number");
-        lend();
-        r = pv_push_u64(text, length - 1, numbers[i]);
-        expect(r.refused == PV_TEXT_TOO_SHORT && r.length == 0 && wrote(0, 0), "a number in too few bytes");
+    for (size_t i = 0; i < sizeof numbers / sizeof numbers[0]; i++)
+        check_number(numbers[i]);
+    for (int digits = 2; digits <= 20; digits++) {
+        power *= 10;
+        check_number(power - 1);
+        check_number(power);
     }
+}
+
+/* Some have the lowest byte 0. Question 20 comes before question 4. */
+static void test_large_widths(void)
+{
+    static const uint32_t widths[] = {21, 22, 256, 65536, 1u << 31, UINT32_MAX};
+    static const size_t rooms[] = {0, 1, 19, 20, 21, MOST};
+    chart_name = "none: large widths";
+    for (size_t i = 0; i < sizeof widths / sizeof widths[0]; i++)
+        for (size_t k = 0; k < sizeof rooms / sizeof rooms[0]; k++) {
+            lend();
+            expect_refused_text(pv_push_u64(text, rooms[k], 7, widths[i]), PV_WIDTH_TOO_LARGE, "one digit at a large width");
+            expect_refused_text(pv_push_u64(text, rooms[k], UINT64_MAX, widths[i]), PV_WIDTH_TOO_LARGE, "20 digits at a large width");
+        }
+}
+
+/* An array of 0 elements may have any pointer. */
+static void test_no_places(void)
+{
+    chart_name = "none: no places";
+    expect(pv_push_u64(NULL, 0, 7, 0).refused == PV_TEXT_TOO_SHORT, "a number");
+    expect(pv_push_u64(NULL, 0, 7, 21).refused == PV_WIDTH_TOO_LARGE, "a number at a large width");
+    expect(pv_board_counts(NULL, 0, NULL, 0).refused == PV_TEXT_TOO_SHORT, "the counts line for boards");
 }
 
 static void test_run_symbols(void)
@@ -784,6 +849,8 @@ int main(void)
     for (const struct chart *chart = charts; chart < charts + CHARTS; chart++)
         test_chart(chart);
     test_numbers();
+    test_large_widths();
+    test_no_places();
     test_run_symbols();
     test_classes();
     test_numbers_that_stand_for_none();

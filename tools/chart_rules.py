@@ -34,6 +34,11 @@ def counts(classes):
     return [classes.count(k) for k in (1, 2, 3, 4)] + [total, part.count(0)] + lead_and_tail(classes)
 
 
+def board_line(classes):
+    """The counts line for boards (A.7): each count at width 7, with the line's end."""
+    return " ".join(f"{n:7}" for n in counts(classes)) + "\n"
+
+
 def joined(tokens, most):
     """Runs of one class over a break of at most `most` join, lengths and gap added, starred."""
     out = []

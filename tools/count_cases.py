@@ -3,18 +3,18 @@
 
 Run in the repository's root: python3 tools/count_cases.py
 It writes crates/count_cases/stdin (a chart a line) and crates/count_cases/stdout (a line for each: the refusal's number and the eight
-counts by their own call, then by the pass).
+counts by their own call, then by the pass, then the refusal's number and the length by board_counts; where that accepts, the line for boards follows).
 """
 from itertools import product
 
-from chart_rules import active, class_of, counts, measures_of, runs, texts
+from chart_rules import active, board_line, class_of, counts, measures_of, runs, texts
 
 MOST = 1048576
 # What the program lends the pass: places for tokens, bytes for the texts.
 TOKENS, ROOM = 64, 1121
 
 
-# A chart, and what the two calls answer.
+# A chart, and what the three calls answer.
 
 def numbers(refused, classes):
     """The refusal's number and the eight counts, which are 0 in a refusal and else hold every measure once, total_breaks aside."""
@@ -32,7 +32,9 @@ def answer(chart):
         by_pass = 2
     if not by_pass and sum(map(len, texts(classes)[:6])) > ROOM:
         by_pass = 4
-    return "; ".join(" ".join(map(str, numbers(no, classes))) for no in (by_counts, by_pass))
+    board = "" if by_counts else board_line(classes)
+    parts = [numbers(by_counts, classes), numbers(by_pass, classes), [by_counts, len(board)]]
+    return "; ".join(" ".join(map(str, part)) for part in parts) + "\n" + board
 
 
 # The charts.
@@ -88,7 +90,7 @@ def main():
     with open("crates/count_cases/stdin", "w") as out:
         out.writelines(chart + "\n" for chart in CHARTS)
     with open("crates/count_cases/stdout", "w") as out:
-        out.writelines(answer(chart) + "\n" for chart in CHARTS)
+        out.writelines(map(answer, CHARTS))
     print(len(CHARTS), "charts")
 
 

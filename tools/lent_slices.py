@@ -3,12 +3,15 @@
 
     python3 tools/lent_slices.py > crates/lent_slices/stdout
 """
-from chart_rules import active, class_of, counts, measures_of, run_symbol, runs, texts
+from itertools import product
+
+from chart_rules import active, board_line, class_of, counts, measures_of, run_symbol, runs, texts
 
 MOST = 1_048_576
 MODES = ["detailed", "partial", "simplified"]
 LEVELS = ["detailed", "partial", "simple", "total"]
-WIDTHS = [0, 2, 4, 5, 8, 100]
+LABEL_WIDTHS = [0, 2, 4, 5, 8, 100]
+NUMBER_WIDTHS = [1, 2, 7, 8, 19, 20, 21, 2**32 - 1]
 CHARTS = [
     "16 0 16",
     "32 0 0 16",
@@ -47,6 +50,12 @@ def lines(name, questions, numbers, text):
 
 def texts_lines(name, domain, written):
     lines(name, domain, [len(text) for text in written], "".join(written))
+
+
+def width_lines(number, width):
+    in_range = width <= 20
+    text = str(number).rjust(width) if in_range else ""
+    texts_lines(f"push_u64 {number} width {width}", [(20, in_range)], [text])
 
 
 def label_lines(width, domain, standard):
@@ -98,14 +107,17 @@ def chart_lines(chart):
         texts_lines(f"stream_breakdown {level}", domain, [text])
     texts_lines("generate_breakdowns", domain, sn)
     texts_lines("stream_breakdowns", domain, standard[:3])
-    for width in WIDTHS:
+    for width in LABEL_WIDTHS:
         label_lines(width, domain, standard)
+    texts_lines("board_counts", domain, [board_line(classes)])
     pass_lines(classes, domain, written[:6])
 
 
 def main():
     for number in (0, 9, 10, 2**64 - 1):
         texts_lines(f"push_u64 {number}", [], [str(number)])
+    for number, width in product((0, 9, 10, 1234567, 2**64 - 1), NUMBER_WIDTHS):
+        width_lines(number, width)
     for name, run_class, length, star in [
         ("Run16", 1, 7, False),
         ("Run16", 1, 7, True),

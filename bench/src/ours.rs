@@ -28,7 +28,7 @@ type Pass<const N: usize> = unsafe extern "C" fn(*const u32, usize, *mut u8, usi
 /// The calls of one build of the library.
 pub struct Library {
     pub name: &'static str,
-    push_u64: unsafe extern "C" fn(*mut u8, usize, u64) -> Written,
+    push_u64: fn(&mut [u8], u64) -> Written,
     push_all: fn(&[u64], &mut [u8]),
     pass: fn(&[u32], &mut Lent) -> Answer<6>,
     works: for<'a> fn(&'a [Vec<u32>], &[(usize, usize)]) -> [Work<'a>; 2],
@@ -36,11 +36,11 @@ pub struct Library {
 
 // The sixth register would hold the second half of `lengths`, and Rust's pair starts behind it: so the slices are passed part by part.
 // In `push_all` each library has a loop of its own, which calls by name: of one loop that calls them all by address the processor predicts
-// the first best.
+// the first best. Its numbers have the width 0, which a library from before request A.7 does not take.
 macro_rules! library {
-    ($library:ident, $name:literal, $counts:expr, $push_u64:ident, $pass:ident) => {
+    ($library:ident, $name:literal, $counts:expr, $push_u64:ident($($width:ident: $kind:ty = $value:expr)?), $pass:ident) => {
         extern "C" {
-            fn $push_u64(out: *mut u8, out_len: usize, n: u64) -> Written;
+            fn $push_u64(out: *mut u8, out_len: usize, n: u64 $(, $width: $kind)?) -> Written;
             fn $pass(
                 m: *const u32,
                 m_len: usize,
@@ -53,27 +53,29 @@ macro_rules! library {
             ) -> Answer<{ $counts }>;
         }
 
-        const $library: Library = Library {
-            name: $name,
-            push_u64: $push_u64,
-            push_all: |numbers, out| {
-                let mut at = 0;
-                for &n in numbers {
-                    let rest = &mut out[at..];
-                    at += unsafe { $push_u64(rest.as_mut_ptr(), rest.len(), n) }.length;
-                }
-            },
-            pass: |m, lent| first_six(call($pass, m, lent)),
-            works: |charts, due| works($pass, charts, due),
+        const $library: Library = {
+            fn push_u64(out: &mut [u8], n: u64) -> Written {
+                unsafe { $push_u64(out.as_mut_ptr(), out.len(), n $(, $value)?) }
+            }
+
+            Library {
+                name: $name,
+                push_u64,
+                push_all: |numbers, out| push_each(numbers, out, push_u64),
+                pass: |m, lent| first_six(call($pass, m, lent)),
+                works: |charts, due| works($pass, charts, due),
+            }
         };
     };
 }
 
-library!(OURS, "ours", 8, pv_push_u64, pv_compute_stream_outputs);
+library!(OURS, "ours", 8, pv_push_u64(width: u32 = 0), pv_compute_stream_outputs);
 #[cfg(before)]
 const BEFORE_COUNTS: usize = if cfg!(six_counts_before) { 6 } else { 8 };
-#[cfg(before)]
-library!(BEFORE, "before", BEFORE_COUNTS, before_pv_push_u64, before_pv_compute_stream_outputs);
+#[cfg(all(before, no_width_before))]
+library!(BEFORE, "before", BEFORE_COUNTS, before_pv_push_u64(), before_pv_compute_stream_outputs);
+#[cfg(all(before, not(no_width_before)))]
+library!(BEFORE, "before", BEFORE_COUNTS, before_pv_push_u64(width: u32 = 0), before_pv_compute_stream_outputs);
 
 /// That of the commit that `run.sh --before` names, if it does, and this one.
 pub const LIBRARIES: &[Library] = &[
@@ -111,7 +113,7 @@ impl Lent {
 
 impl Library {
     pub fn push_u64(&self, out: &mut [u8], n: u64) -> Written {
-        unsafe { (self.push_u64)(out.as_mut_ptr(), out.len(), n) }
+        (self.push_u64)(out, n)
     }
 
     /// The numbers one behind the other.
@@ -127,6 +129,14 @@ impl Library {
     /// What is timed: the pass on one chart after the other, with roomy slices and with tight ones.
     pub fn works<'a>(&self, charts: &'a [Vec<u32>], due: &[(usize, usize)]) -> [Work<'a>; 2] {
         (self.works)(charts, due)
+    }
+}
+
+/// Numbers one behind the other, each by `push`.
+pub fn push_each(numbers: &[u64], out: &mut [u8], push: impl Fn(&mut [u8], u64) -> Written) {
+    let mut at = 0;
+    for &n in numbers {
+        at += push(&mut out[at..], n).length;
     }
 }
 
@@ -171,6 +181,10 @@ fn works<'a, const N: usize>(pass: Pass<N>, charts: &'a [Vec<u32>], due: &[(usiz
             }
         }),
     ]
+}
+
+pub fn push_u64_padded(out: &mut [u8], n: u64, width: u32) -> Written {
+    unsafe { pv_push_u64(out.as_mut_ptr(), out.len(), n, width) }
 }
 
 pub fn read_note_rows(text: &[u8], densities: &mut [u32]) -> RowsAnswer {

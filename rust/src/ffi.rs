@@ -127,10 +127,11 @@ macro_rules! calls {
 }
 
 calls! {
-    fn push_u64 as pv_push_u64({out: u8} n: u64) -> Written;
+    fn push_u64 as pv_push_u64({out: u8} n: u64, width: u32) -> Written;
     fn categorize_measure_density as pv_categorize_measure_density(density: u32) -> u32;
     fn active_range as pv_active_range([m: u32]) -> ActiveRange;
     fn compute_stream_counts as pv_compute_stream_counts([m: u32]) -> CountsAnswer;
+    fn board_counts as pv_board_counts([m: u32] {out: u8}) -> Written;
     fn share as pv_share([m: u32]) -> ShareAnswer;
     fn alike as pv_alike([a: u32] [b: u32]) -> AlikeAnswer;
     fn stream_sequences as pv_stream_sequences([m: u32] {out: StreamSegment}) -> SegmentsAnswer;

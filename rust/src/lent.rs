@@ -22,9 +22,10 @@ pub struct ChartRecord {
     pub name_length: usize,
 }
 
-/// A number in base ten. Question 4. The length is answered, here and for every text.
-pub fn push_u64(out: &mut [u8], n: u64) -> Result<usize, Refused> {
-    let r = ffi::push_u64(out, n);
+/// A number in base ten, with spaces before it where it has fewer digits than the width; at most 20 bytes. Questions 20, 4. The
+/// length is answered, here and for every text.
+pub fn push_u64(out: &mut [u8], n: u64, width: u32) -> Result<usize, Refused> {
+    let r = ffi::push_u64(out, n, width);
     Refused::unless(r.refused, r.length)
 }
 
@@ -47,6 +48,12 @@ pub fn active_range(m: &[u32]) -> &[u32] {
 pub fn compute_stream_counts(m: &[u32]) -> Result<StreamCounts, Refused> {
     let r = ffi::compute_stream_counts(m);
     Refused::unless(r.refused, r.counts)
+}
+
+/// The counts line for boards: the eight counts, each at width 7, parted by one space, ended by 0A; 64 bytes. Questions 1, 4.
+pub fn board_counts(m: &[u32], out: &mut [u8]) -> Result<usize, Refused> {
+    let r = ffi::board_counts(m, out);
+    Refused::unless(r.refused, r.length)
 }
 
 /// Share: 10,000 × s divided by (s + sn_breaks), rounded down, s the stream measures; at most 10,000. Questions 1, 7.

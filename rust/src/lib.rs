@@ -1,7 +1,8 @@
 //! Stream breakdowns of dance game charts, by proved calls: the functions and types of `rssp-core`'s `streams`, with `lead` and
-//! `tail` more in its counts, over the static library `puvolamie_c`, a reader of note rows, and a converter from SN to standard
-//! detailed text. A chart of more than 1,048,576 measures, a run symbol for a break, and note rows and SN texts outside their
-//! rules or undecided are refused; nothing else is, and nothing panics.
+//! `tail` more in its counts, over the static library `puvolamie_c`, numbers at a width, the counts line for boards, a reader of
+//! note rows, and a converter from SN to standard detailed text. A chart of more than 1,048,576 measures, a width above 20, a run
+//! symbol for a break, and note rows and SN texts outside their rules or undecided are refused; nothing else is, and nothing
+//! panics.
 //!
 //! The functions here allocate their answers. Those of [`lent`] write into slices that the caller lends.
 
@@ -61,9 +62,17 @@ fn three<'a>(bytes: &'a [u8], lengths: &[usize]) -> (Texts, &'a [u8]) {
 
 /// `n` in base ten, at the end of `out`.
 pub fn push_u64(out: &mut String, n: u64) {
-    let mut digits = [0; 20];
-    let length = lent::push_u64(&mut digits, n).unwrap_or(0);
-    out.extend(digits.iter().take(length).map(|&b| char::from(b)));
+    // Every number is accepted at width 0.
+    let _ = push_u64_padded(out, n, 0);
+}
+
+/// The same, with spaces before `n` where it has fewer digits than the width. A width above 20 is refused with 20, and `out`
+/// stays as it was.
+pub fn push_u64_padded(out: &mut String, n: u64, width: u32) -> Result<(), Refused> {
+    let mut bytes = [0; 20];
+    let length = lent::push_u64(&mut bytes, n, width)?;
+    out.extend(bytes.iter().take(length).map(|&b| char::from(b)));
+    Ok(())
 }
 
 /// The class of a density.
@@ -84,6 +93,11 @@ pub fn stream_sequences(measures: &[usize]) -> Result<Vec<StreamSegment>, Refuse
 /// Counts.
 pub fn compute_stream_counts(measures: &[usize]) -> Result<StreamCounts, Refused> {
     lent::compute_stream_counts(&densities(measures))
+}
+
+/// The counts line for boards: the eight counts, each at width 7, parted by one space, ended by 0A.
+pub fn board_counts(measures: &[usize]) -> Result<String, Refused> {
+    text(64, |out| lent::board_counts(&densities(measures), out))
 }
 
 /// Counts, the SN texts and the standard texts.

@@ -1,4 +1,5 @@
-//! The paper's charts, through the functions with the original's names, note rows, and SN texts.
+//! The paper's charts, through the functions with the original's names, their counts lines for boards, numbers, note rows, and SN
+//! texts.
 
 use crate::*;
 
@@ -162,6 +163,7 @@ fn refusals_carry_the_questions_number() {
     );
     assert_eq!(tokens, [Token::Break(7)]);
     assert_eq!(compute_stream_counts(&many), Err(Refused(1)));
+    assert_eq!(board_counts(&many), Err(Refused(1)));
     assert_eq!(stream_sequences(&many), Err(Refused(1)));
     assert_eq!(stream_breakdowns(&many), Err(Refused(1)));
     assert_eq!(
@@ -170,7 +172,7 @@ fn refusals_carry_the_questions_number() {
     );
     assert_eq!(lent::share(&[0, 15]), Err(Refused(7)));
     assert_eq!(lent::label(&[16], 0, &mut [0; 9]), Err(Refused(6)));
-    assert_eq!(lent::push_u64(&mut [0; 2], 100), Err(Refused(4)));
+    assert_eq!(lent::push_u64(&mut [0; 2], 100, 0), Err(Refused(4)));
     let number = Refused(5).to_string();
     assert_eq!(number, "refused 5: a stream class for a run symbol?");
 }
@@ -195,6 +197,80 @@ fn numbers_and_run_symbols() {
     assert_eq!(out, "n 18446744073709551615");
     let symbol = format_run_symbol(RunDensity::Run24, usize::MAX, true);
     assert_eq!(symbol.as_deref(), Ok("\\18446744073709551615\\*"));
+}
+
+#[test]
+fn numbers_at_a_width() {
+    for (n, width, due) in [
+        (0, 0, "0"),
+        (0, 1, "0"),
+        (0, 7, "      0"),
+        (1_048_576, 7, "1048576"),
+        (10_000_000, 7, "10000000"),
+        (99, 20, "                  99"),
+        (u64::MAX, 20, "18446744073709551615"),
+    ] {
+        let mut out = String::from("n ");
+        assert_eq!(push_u64_padded(&mut out, n, width), Ok(()));
+        assert_eq!(out, format!("n {due}"));
+        let mut short = vec![7; due.len() - 1];
+        let refused = lent::push_u64(&mut short, n, width);
+        assert_eq!((refused, short), (Err(Refused(4)), vec![7; due.len() - 1]));
+    }
+    let mut longer = [7; 6];
+    assert_eq!(lent::push_u64(&mut longer, 12, 4), Ok(4));
+    assert_eq!(&longer, b"  12\x07\x07");
+}
+
+#[test]
+fn widths_above_20() {
+    for width in [21, 22, u32::MAX] {
+        let mut out = String::from("n ");
+        assert_eq!(push_u64_padded(&mut out, 7, width), Err(Refused(20)));
+        assert_eq!(out, "n ");
+        for room in [0, 1, 20, 30] {
+            let mut out = vec![7; room];
+            let refused = lent::push_u64(&mut out, u64::MAX, width);
+            assert_eq!((refused, out), (Err(Refused(20)), vec![7; room]));
+        }
+    }
+    let words = Refused(20).to_string();
+    assert_eq!(words, "refused 20: a width of at most 20?");
+}
+
+/// The counts line for boards, from the counts in their order.
+fn board_line(numbers: [u32; 8]) -> String {
+    numbers.map(|n| format!("{n:>7}")).join(" ") + "\n"
+}
+
+#[test]
+fn counts_lines_for_boards() {
+    for chart in &CHARTS {
+        let due = board_line(chart.counts);
+        assert_eq!(board_counts(&measures(chart)), Ok(due));
+    }
+    let due = "      3       2       0       0       3       4       0       0\n";
+    let m = densities(&measures(&CHARTS[12]));
+    let mut longer = [7; 66];
+    assert_eq!(lent::board_counts(&m, &mut longer), Ok(64));
+    assert_eq!(longer, *[due.as_bytes(), &[7; 2]].concat());
+    let mut short = [7; 63];
+    let refused = lent::board_counts(&m, &mut short);
+    assert_eq!((refused, short), (Err(Refused(4)), [7; 63]));
+}
+
+#[test]
+fn counts_lines_at_the_domains_edge() {
+    let streams = MOST_MEASURES - 5;
+    let m = [vec![0; 2], vec![32; streams], vec![0; 3]].concat();
+    let due = board_line([0, 0, 0, streams as u32, 5, 0, 2, 3]);
+    assert_eq!(board_counts(&m), Ok(due));
+    let many = vec![16; MOST_MEASURES + 1];
+    for room in [0, 63, 64] {
+        let mut out = vec![7; room];
+        let refused = lent::board_counts(&many, &mut out);
+        assert_eq!((refused, out), (Err(Refused(1)), vec![7; room]));
+    }
 }
 
 #[test]

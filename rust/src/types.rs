@@ -161,6 +161,7 @@ impl fmt::Display for Refused {
             17 => "the whole payload present?",
             18 => "runs and breaks by the rules, with at most 1,048,576 measures?",
             19 => "is each gap decided?",
+            20 => "a width of at most 20?",
             _ => "unknown question",
         };
         write!(f, "refused {}: {}", self.0, question)

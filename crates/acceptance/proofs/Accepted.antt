@@ -9,9 +9,9 @@ use lib.Dec.{leb}
 use lib.ListN.{length, replicate}
 use lib.Seq.{take-append-seam}
 use borrow.Author.Tests.{leb-true}
-use Rattle.number.specs.Questions.{firstNo, accepted, filled}
-use Rattle.number.specs.declared.Written.{Written}
+use Rattle.number.specs.Questions.{firstNo, accepted}
 use Rattle.number.proofs.Split.{split}
+use Rattle.number.proofs.Questions.{accepted-is as kept, text-accepted}
 use Rattle.rules.specs.Bytes.{sameBytes}
 use Rattle.rules.specs.Chart.{inDomain, classes, classNumber, tokens, counts, noCounts}
 use Rattle.rules.specs.declared.Kind.the-variants.{Standard as standard}
@@ -41,11 +41,6 @@ use Rattle.stream_outputs.specs.Promises.{passNo}
 use Rattle.stream_outputs.specs.declared.StreamOutputs.{StreamOutputs}
 use Rattle.sheet_lines.specs.Sheet.{sheetBytes}
 use Rattle.acceptance.specs.Accepted.{Accepted}
-
--- a call that carries 0 gives the accepted answer
-kept : {A : Type 0} (q : ℕ) (a b : A) → q ≡ 0 → accepted q a b ≡ a
-kept zero a b h = refl
-kept (suc q) a b h = absurd (omega (arith, h))
 
 kept-segment : (q : ℕ) (x : NthSegment) → accepted q x (record { refused = q; found = false; segment = noSegment }) .refused ≡ 0
     → accepted q x (record { refused = q; found = false; segment = noSegment }) ≡ x
@@ -80,9 +75,7 @@ pub all-accepted : Accepted
 unfolding nthSegment
 all-accepted =
     record {
-      oneText = λ q text old new r p h.
-          let z : q ≡ 0 = sym (ap (λ (w : Written). w .refused) (p .answer)) ∙ h in
-          (ap (λ (w : Written). w .length) (p .answer) ∙ kept q (length text) 0 z, p .bytes ∙ kept q (filled old text) old z);
+      oneText = λ q text old new r p h. let w = text-accepted q text old new r p h in (w .1, w .2);
       breakdowns = λ ks m old new r p h.
           let q = threeNo ks m old in
           let z : q ≡ 0 = sym (ap (λ (w : ThreeWritten). w .refused) (p .answer)) ∙ h in

@@ -6,6 +6,7 @@ use mathlib.Core.List.{List}
 use Rattle.rules.specs.Chart.{classes}
 use Rattle.rules.proofs.Demand.{same-classes}
 use Rattle.counts.proofs.Same.{same-counts, same-share}
+use Rattle.counts_line.proofs.Same.{same-board-counts}
 use Rattle.alike.proofs.Same.{same-alike}
 use Rattle.token_view.proofs.Same as token-view
 use Rattle.segments.proofs.Same as segments
@@ -28,6 +29,7 @@ of-charts a b e =
       tokenView = λ n no₁ no₂ v₁ v₂ t₁ t₂ p q. token-view.same-view a b e p q;
       breakdown = λ k old new₁ new₂ r₁ r₂ p q. same-breakdown a b e k p q;
       breakdowns = λ ks old new₁ new₂ r₁ r₂ p q. same-breakdowns a b e ks p q;
+      boardCounts = λ old new₁ new₂ r₁ r₂ p q. same-board-counts a b e p q;
       outputs = λ cs cs₁ cs₂ ns ns₁ ns₂ old new₁ new₂ r₁ r₂ p q. same-outputs a b e p q;
       label = λ width old new₁ new₂ r₁ r₂ p q. same-label a b e width p q;
     }

@@ -26,7 +26,7 @@ use Rattle.sn_to_standard.specs.Laws.{snText, standardText}
 use Rattle.sn_to_standard.proofs.Laws.{laws}
 use Rattle.sheet_lines.specs.Sheet.{textLines, sheetNo, sheetKinds, chartOf, Printed}
 use Rattle.sheet_lines.specs.declared.Sheet.{Sheet}
-use Rattle.sheet_lines.proofs.Lines.{counts-line}
+use Rattle.counts_line.proofs.Lines.{counts-line}
 use Rattle.acceptance.specs.SecondHalf.{nth, KindAt, afterLine, lineAt, TextWritten, single, three, pass, label, converted, sheet, SecondHalf}
 use Rattle.acceptance.proofs.Written.{marked-off, nth-text, after-line, line-text, after-name}
 
@@ -70,7 +70,7 @@ printed-text : (i : ℕ) (k : Kind) (input : List ℕ) (r : Sheet) → KindAt sh
 printed-text i k input r h p e =
     let m = chartOf input in
     ap (λ (l : List ℕ). lineAt i (afterLine l)) (after-name input r p e)
-    ∙ ap (lineAt i) (after-line (textLines sheetKinds m) (counts-line (counts (classes m))))
+    ∙ ap (lineAt i) (after-line (textLines sheetKinds m) (counts-line 0 (counts (classes m))))
     ∙ line-text sheetKinds i k m h
 
 pub written-text : {k : Kind} {m x : List ℕ} → TextWritten k m x → x ≡ text k m

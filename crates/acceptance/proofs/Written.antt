@@ -12,7 +12,8 @@ use Rattle.rules.specs.Chart.{classes, counts}
 use Rattle.rules.specs.declared.Kind.{Kind}
 use Rattle.rules.specs.Texts.{text, endToEnd, lengthsOf}
 use Rattle.rules.proofs.Lines.{OneLine, text-line}
-use Rattle.sheet_lines.specs.Sheet.{line, countsLine, textLines, sheetNo, sheetKinds, chartOf, Printed}
+use Rattle.counts_line.specs.CountsLine.{line, countsLine}
+use Rattle.sheet_lines.specs.Sheet.{textLines, sheetNo, sheetKinds, chartOf, Printed}
 use Rattle.sheet_lines.specs.declared.Sheet.{Sheet}
 use Rattle.sheet_lines.proofs.Lines.{one-line-name, sheet-lines}
 use Rattle.acceptance.specs.SecondHalf.{nth, KindAt, firstLine, afterLine, lineAt}

@@ -40,7 +40,7 @@ use Rattle.sheet_lines.specs.Sheet.{sheetBytes, Printed}
 use Rattle.sheet_lines.specs.declared.Sheet.{Sheet}
 
 pub record Accepted : Type 0 where
-  -- push_u64, format_run_symbol, generate_breakdown, stream_breakdown, sn_to_standard: the text that is due
+  -- push_u64, format_run_symbol, generate_breakdown, stream_breakdown, sn_to_standard, board_counts: the text that is due
   pub oneText : (q : ℕ) (text old new : List ℕ) (r : Written) → OneText q text old new r → r .refused ≡ 0
       → (r .length ≡ length text) × (new ≡ filled old text)
   -- generate_breakdowns, stream_breakdowns

@@ -11,6 +11,7 @@ use Rattle.rules.specs.declared.Kind.{Kind}
 use Rattle.rules.specs.declared.StreamSegment.{StreamSegment}
 use Rattle.rules.specs.declared.ViewToken.{ViewToken}
 use Rattle.counts.specs.Promises.{countsAnswer, shareAnswer}
+use Rattle.counts_line.specs.Promises.{BoardCounts}
 use Rattle.alike.specs.Promises.{alikeAnswer}
 use Rattle.token_view.specs.Promises.{nthAnswer}
 use Rattle.token_view.specs.Steps.{Stepped}
@@ -48,6 +49,8 @@ pub record OfCharts (a b : List ℕ) : Type 0 where
   -- generate_breakdowns and stream_breakdowns
   pub breakdowns : (ks : List Kind) (old new₁ new₂ : List ℕ) (r₁ r₂ : ThreeWritten)
       → Breakdowns ks a old new₁ r₁ → Breakdowns ks b old new₂ r₂ → (r₁ ≡ r₂) × (new₁ ≡ new₂)
+  -- board_counts
+  pub boardCounts : (old new₁ new₂ : List ℕ) (r₁ r₂ : Written) → BoardCounts a old new₁ r₁ → BoardCounts b old new₂ r₂ → (r₁ ≡ r₂) × (new₁ ≡ new₂)
   -- compute_stream_outputs
   pub outputs : (cs cs₁ cs₂ ns ns₁ ns₂ old new₁ new₂ : List ℕ) (r₁ r₂ : StreamOutputs)
       → Outputs a cs cs₁ ns ns₁ old new₁ r₁ → Outputs b cs cs₂ ns ns₂ old new₂ r₂

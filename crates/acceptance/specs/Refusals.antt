@@ -31,7 +31,7 @@ use Rattle.stream_outputs.specs.Promises.{Outputs}
 use Rattle.stream_outputs.specs.declared.StreamOutputs.{StreamOutputs}
 
 pub record Refusals : Type 0 where
-  -- push_u64, format_run_symbol, generate_breakdown, stream_breakdown, sn_to_standard: `q` is the first no
+  -- push_u64, format_run_symbol, generate_breakdown, stream_breakdown, sn_to_standard, board_counts: `q` is the first no
   pub oneText : (q : ℕ) (text old new : List ℕ) (r : Written) → OneText q text old new r → r .refused ≢ 0
       → (r ≡ record { refused = q; length = 0 }) × (new ≡ old)
   -- generate_breakdowns, stream_breakdowns

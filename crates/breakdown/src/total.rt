@@ -15,7 +15,7 @@ pub fn total_text(streams: u64, out: &mut [u8], at: usize) -> usize
     if streams == 0 {
         return put_no_streams(out, at);
     }
-    let a = put_u64(out, at, streams);
+    let a = put_u64(out, at, streams, 0);
     put_bytes(out, a, b" Total")
 }
 

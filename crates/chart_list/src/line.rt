@@ -23,7 +23,7 @@ pub fn put_number(out: &mut [u8], at: usize, n: u64) -> usize
     ensures { λ r. ⌜ Counts r (now (out .exit)) ⌝ }
 {
     let mut digits = [0u8; 20];
-    let written = number::push_u64(&mut digits, n);
+    let written = number::push_u64(&mut digits, n, 0);
     let length = written.length;
     put_bytes(out, at, &digits[..length])
 }

@@ -1,19 +1,21 @@
-// The line of one chart, each part of it put at a place of the line and answering the next place.
+// The lines of one chart, each part of them put at a place and answering the next place.
 use chart_list::line::put_bytes;
 use chart_list::line::put_number;
 use counts::compute_stream_counts;
+use counts_line::board_counts;
 use libc::STDOUT_FILENO;
 use rules::StreamCounts;
 use stream_outputs::compute_stream_outputs;
 ghost use Rattle.io.specs.Counts.{Counts};
 
 pub fn print_answers(m: &[u32]) {
-    let mut line = [0u8; 256];
-    let counts_end = put_by_counts(&mut line, 0, m);
-    let parted = put_bytes(&mut line, counts_end, b"; ");
-    let pass_end = put_by_pass(&mut line, parted, m);
-    let end = put_bytes(&mut line, pass_end, b"\n");
-    io::write_all(STDOUT_FILENO, &line[..end]);
+    let mut lines = [0u8; 256];
+    let counts_end = put_by_counts(&mut lines, 0, m);
+    let counts_parted = put_bytes(&mut lines, counts_end, b"; ");
+    let pass_end = put_by_pass(&mut lines, counts_parted, m);
+    let pass_parted = put_bytes(&mut lines, pass_end, b"; ");
+    let end = put_board(&mut lines, pass_parted, m);
+    io::write_all(STDOUT_FILENO, &lines[..end]);
 }
 
 fn put_by_counts(out: &mut [u8], at: usize, m: &[u32]) -> usize
@@ -36,6 +38,23 @@ fn put_by_pass(out: &mut [u8], at: usize, m: &[u32]) -> usize
     let counts = answer.counts;
     let number_end = put_number(out, at, answer.refused as u64);
     put_counts(out, number_end, counts)
+}
+
+// Lent are 64 bytes, which the line for boards fills.
+fn put_board(out: &mut [u8], at: usize, m: &[u32]) -> usize
+    ensures { λ r. ⌜ Counts r (now (out .exit)) ⌝ }
+{
+    let mut board = [0u8; 64];
+    let answer = board_counts(m, &mut board);
+    let number_end = put_number(out, at, answer.refused as u64);
+    let space_end = put_bytes(out, number_end, b" ");
+    let length_end = put_number(out, space_end, answer.length as u64);
+    let line_end = put_bytes(out, length_end, b"\n");
+    if answer.refused == 0 {
+        put_bytes(out, line_end, &board)
+    } else {
+        line_end
+    }
 }
 
 fn put_counts(out: &mut [u8], at: usize, counts: StreamCounts) -> usize

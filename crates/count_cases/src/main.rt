@@ -1,4 +1,5 @@
-// Prints, for each chart of a list, the counts by their own call and by the pass, each behind the refusal's number: one line a chart.
+// Prints a line for each chart of a list: the counts by their own call and by the pass, each behind the refusal's number, and the refusal's number and
+// the length by `board_counts`. Where that accepts, the line for boards follows.
 mod answers;
 
 use answers::print_answers;

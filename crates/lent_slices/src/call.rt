@@ -7,6 +7,7 @@ use chart_texts::single::generate_breakdown;
 use chart_texts::single::stream_breakdown;
 use chart_texts::three::generate_breakdowns;
 use chart_texts::three::stream_breakdowns;
+use counts_line::board_counts;
 use label::LabelWritten;
 use label::label;
 use libc::STDOUT_FILENO;
@@ -19,7 +20,7 @@ use run_symbol::format_run_symbol;
 ghost use Prim.Native.Nat.{_≤_};
 
 pub enum Call {
-    Number(u64),
+    Number(u64, u32),
     Symbol(RunDensity, u64),
     Starred(RunDensity, u64),
     Sn(BreakdownMode),
@@ -27,6 +28,7 @@ pub enum Call {
     SnTexts,
     StandardTexts,
     Label(usize),
+    Board,
 }
 
 // What a call answered: the refusal's number, how many numbers follow it and which, and the length of all its text.
@@ -74,7 +76,7 @@ fn labelled(written: LabelWritten) -> Answer {
 
 fn make(call: Call, m: &[u32], out: &mut [u8]) -> Answer {
     match call {
-        Call::Number(n) => one(push_u64(out, n)),
+        Call::Number(n, width) => one(push_u64(out, n, width)),
         Call::Symbol(class, n) => one(format_run_symbol(class, n, false, out)),
         Call::Starred(class, n) => one(format_run_symbol(class, n, true, out)),
         Call::Sn(mode) => one(generate_breakdown(m, mode, out)),
@@ -82,6 +84,7 @@ fn make(call: Call, m: &[u32], out: &mut [u8]) -> Answer {
         Call::SnTexts => three(generate_breakdowns(m, out)),
         Call::StandardTexts => three(stream_breakdowns(m, out)),
         Call::Label(width) => labelled(label(m, width, out)),
+        Call::Board => one(board_counts(m, out)),
     }
 }
 

@@ -6,6 +6,8 @@ mod pass;
 
 use call::Call;
 use call::print_call;
+use chart_list::line::put_bytes;
+use chart_list::line::put_number;
 use libc::STDOUT_FILENO;
 use pass::print_passes;
 use rules::BreakdownMode;
@@ -14,14 +16,44 @@ use rules::StreamBreakdownLevel;
 
 fn print_numbers() {
     let none = [0u32; 0];
-    print_call(b"push_u64 0", Call::Number(0), &none);
-    print_call(b"push_u64 9", Call::Number(9), &none);
-    print_call(b"push_u64 10", Call::Number(10), &none);
+    print_call(b"push_u64 0", Call::Number(0, 0), &none);
+    print_call(b"push_u64 9", Call::Number(9, 0), &none);
+    print_call(b"push_u64 10", Call::Number(10, 0), &none);
     print_call(
         b"push_u64 18446744073709551615",
-        Call::Number(u64::MAX),
+        Call::Number(u64::MAX, 0),
         &none,
     );
+}
+
+fn print_at_width(n: u64, width: u32) {
+    let none = [0u32; 0];
+    let mut name = [0u8; 64];
+    let call_end = put_bytes(&mut name, 0, b"push_u64 ");
+    let number_end = put_number(&mut name, call_end, n);
+    let word_end = put_bytes(&mut name, number_end, b" width ");
+    let end = put_number(&mut name, word_end, width as u64);
+    print_call(&name[..end], Call::Number(n, width), &none);
+}
+
+// The last two are refused with 20.
+fn print_at_widths(n: u64) {
+    print_at_width(n, 1);
+    print_at_width(n, 2);
+    print_at_width(n, 7);
+    print_at_width(n, 8);
+    print_at_width(n, 19);
+    print_at_width(n, 20);
+    print_at_width(n, 21);
+    print_at_width(n, u32::MAX);
+}
+
+fn print_padded() {
+    print_at_widths(0);
+    print_at_widths(9);
+    print_at_widths(10);
+    print_at_widths(1234567);
+    print_at_widths(u64::MAX);
 }
 
 fn print_symbols() {
@@ -111,6 +143,7 @@ fn print_chart(line: &[u8], m: &[u32]) {
     io::write_all(STDOUT_FILENO, line);
     print_texts(m);
     print_labels(m);
+    print_call(b"board_counts", Call::Board, m);
     print_passes(m);
 }
 
@@ -130,6 +163,7 @@ fn print_too_many(m: &[u32; 1048577]) {
 
 fn main() {
     print_numbers();
+    print_padded();
     print_symbols();
     print_chart(b"chart 16 0 16\n", &[16, 0, 16]);
     print_chart(b"chart 32 0 0 16\n", &[32, 0, 0, 16]);

@@ -4,9 +4,11 @@ pub mod Each
 pub mod Digits
 pub mod Four
 pub mod Read
+pub mod Padded
 pub mod Backward
 pub mod Push
 pub mod Place
 pub mod Grown
 pub mod Word
 pub mod PlacesSet
+pub mod Laws

@@ -81,27 +81,34 @@ one-text xs old new r h g =
     let s = at-start xs old new r h g in
     record { answer = ap (λ (k : ℕ). record { refused = 0; length = k }) (s .0); bytes = s .1 }
 
--- what a call that was lent the part from `at` on has written there
-module _ (xs old last : List ℕ) (at : ℕ) (r : Written) (room : Room old at xs) where
+-- the part from `at` on is lent, and xs is written at its start
+module _ (xs old last : List ℕ) (at : ℕ) (room : Room old at xs) where
   abbrev part : List ℕ
   part = take (length old - at) (drop at old)
 
   whole : part ≡ drop at old
   whole = take-all (length old - at) (drop at old) (simp length-drop (omega (arith, room .fits)))
 
-  room-had : firstNo (roomFor xs part ∷ []) ≡ 0
-  room-had = room-yes xs part (rw (whole, length-drop) (omega (arith, room .fits)))
+  pub part-room : length xs ≤ length part
+  part-room = rw (whole, length-drop) (omega (arith, room .fits))
 
-  module _ (p : OneText (firstNo (roomFor xs part ∷ [])) xs part last r) where
+  pub part-filled : last ≡ filled part xs → Wrote old (putMid at (length old - at) old last) at xs (at + length xs)
+  part-filled p =
+      let e : last ≡ xs ++ drop (length xs) (drop at old) = rw whole at p in
+      let nothing : drop (at + (length old - at)) old ≡ [] = drop-of-length-le old {i = at + (length old - at)} (omega (arith, room .fits)) in
+      record {
+        next = refl;
+        bytes = rw (sets-eq xs old at (room .fits), e, drop-drop (length xs) at old, drop-drop (length old - at) at old, nothing, append-nil)
+            (sym (append-assoc (take at old) xs (drop (at + length xs) old)));
+      }
+
+  -- by a call that writes one text
+  module _ (r : Written) (p : OneText (firstNo (roomFor xs part ∷ [])) xs part last r) where
+    accepted-there : firstNo (roomFor xs part ∷ []) ≡ 0
+    accepted-there = room-yes xs part part-room
+
     pub part-length : r .length ≡ length xs
-    part-length = ap (λ (w : Written). w .length) (rw room-had at (p .answer))
+    part-length = ap (λ (w : Written). w .length) (rw accepted-there at (p .answer))
 
     pub part-wrote : Wrote old (putMid at (length old - at) old last) at xs (at + r .length)
-    part-wrote =
-        let e : last ≡ xs ++ drop (length xs) (drop at old) = rw (room-had, whole) at (p .bytes) in
-        let nothing : drop (at + (length old - at)) old ≡ [] = drop-of-length-le old {i = at + (length old - at)} (omega (arith, room .fits)) in
-        record {
-          next = ap (λ (n : ℕ). at + n) part-length;
-          bytes = rw (sets-eq xs old at (room .fits), e, drop-drop (length xs) at old, drop-drop (length old - at) at old, nothing, append-nil)
-              (sym (append-assoc (take at old) xs (drop (at + length xs) old)));
-        }
+    part-wrote = rw part-length (part-filled (rw accepted-there at (p .bytes)))

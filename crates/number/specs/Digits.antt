@@ -4,6 +4,7 @@ use Prim.Native.Nat.{ℕ, zero, suc, _+_, _-_, _*_, _/_, _%_}
 use mathlib.Core.Bool.{Bool, cond, _&&_}
 use mathlib.Core.List.{List, [], _∷_, _++_}
 use lib.Dec.{ltb, leb}
+use lib.ListN.{length, replicate}
 
 -- the digits of n, which has at most k + 1 of them
 abbrev pub digitsIn : ℕ → ℕ → List ℕ
@@ -15,6 +16,10 @@ digitsIn (suc k) n =
 -- Number writer: base ten, no leading zero, 0 as "0" (n has at most n + 1 digits)
 unfoldable pub digits : ℕ → List ℕ
 digits n = digitsIn n n
+
+-- n at a least width (document 02, A.7): spaces before a shorter number
+unfoldable pub padded : ℕ → ℕ → List ℕ
+padded width n = replicate (width - length (digits n)) 32 ++ digits n
 
 -- the last j digits of n, with zeros before it where it has fewer
 abbrev pub lastDigits : ℕ → ℕ → List ℕ

@@ -5,3 +5,4 @@ pub mod Grown
 pub mod Word
 pub mod PlacesSet
 pub mod Pushed
+pub mod Laws

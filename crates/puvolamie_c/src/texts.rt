@@ -4,6 +4,7 @@ use chart_texts::single::generate_breakdown;
 use chart_texts::single::stream_breakdown;
 use chart_texts::three::generate_breakdowns;
 use chart_texts::three::stream_breakdowns;
+use counts_line::board_counts;
 use label::LabelWritten;
 use label::label;
 use label::level::level_at;
@@ -23,6 +24,7 @@ ghost use lib.ListN.{length};
 ghost use Rattle.number.specs.Pushed.{Pushed};
 ghost use Rattle.rules.specs.Chart.{classNumber};
 ghost use Rattle.rules.specs.Texts.{snKinds, standardKinds};
+ghost use Rattle.counts_line.specs.Promises.{BoardCounts};
 ghost use Rattle.run_symbol.specs.Promises.{RunSymbol};
 ghost use Rattle.chart_texts.specs.Promises.{Breakdowns};
 ghost use Rattle.label.specs.Promises.{Label};
@@ -40,10 +42,17 @@ pub struct PairPart {
 }
 
 #[no_mangle]
-pub extern "C" fn pv_push_u64(out: &mut [u8], n: u64) -> Written
-    ensures { λ r. ⌜ Pushed n (now (out .entry)) (now (out .exit)) r ⌝ }
+pub extern "C" fn pv_push_u64(out: &mut [u8], n: u64, width: u32) -> Written
+    ensures { λ r. ⌜ Pushed n width (now (out .entry)) (now (out .exit)) r ⌝ }
 {
-    push_u64(out, n)
+    push_u64(out, n, width)
+}
+
+#[no_mangle]
+pub extern "C" fn pv_board_counts(m: &[u32], out: &mut [u8]) -> Written
+    ensures { λ r. ⌜ BoardCounts (now (m .entry)) (now (out .entry)) (now (out .exit)) r ⌝ }
+{
+    board_counts(m, out)
 }
 
 // The class with the number n.

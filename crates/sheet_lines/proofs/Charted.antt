@@ -20,9 +20,11 @@ use Rattle.rules.specs.declared.StreamBreakdownLevel.the-variants as Level
 use Rattle.chart_texts.specs.Promises.{Breakdown}
 use Rattle.stream_outputs.specs.Promises.{passNo, Outputs}
 use Rattle.stream_outputs.specs.declared.StreamOutputs.{StreamOutputs}
-use Rattle.sheet_lines.specs.Sheet.{places, textBytes, totalBytes, firstRefusal, totalNo, line, countsLine, sheetKinds, textLines}
+use Rattle.counts_line.specs.CountsLine.{line, countsLine}
+use Rattle.counts_line.proofs.Bound.{counts-short}
+use Rattle.sheet_lines.specs.Sheet.{places, textBytes, totalBytes, firstRefusal, totalNo, sheetKinds, textLines}
 use Rattle.sheet_lines.specs.Steps.{AtStart, NameRoom, LinesRoom, refusalLine, sum, cutLines, allLines, textsNo, chartBytes}
-use Rattle.sheet_lines.proofs.Bound.{counts-short, sum-lengths, lines-length}
+use Rattle.sheet_lines.proofs.Bound.{sum-lengths, lines-length}
 
 -- ---- refusals
 

@@ -9,7 +9,7 @@ use lib.ListN.{length, take, drop, getD, drop-of-length-le}
 use lib.Seq.{drop-cons}
 use Rattle.number.specs.Place.{Room, Wrote}
 use Rattle.text_buffer.proofs.Reached as Text
-use Rattle.sheet_lines.specs.Sheet.{line}
+use Rattle.counts_line.specs.CountsLine.{line}
 use Rattle.sheet_lines.specs.Steps.{sum, cutLines, Cuts}
 
 sum-suc : (ns : List ℕ) (i : ℕ) → i < length ns → sum (take (suc i) ns) ≡ sum (take i ns) + getD ns i 0

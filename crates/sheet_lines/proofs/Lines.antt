@@ -1,4 +1,4 @@
--- What `sheet` prints for an accepted record stands line by line: neither the name nor the counts have the byte 0A.
+-- What `sheet` prints for an accepted record stands line by line: the name has no byte 0A, as the counts line has none (counts_line/proofs/Lines).
 -- Assumes nothing.
 use Prim.Native.Nat.{ℕ, zero, suc}
 use mathlib.Core.Path.{_≡_, refl}
@@ -10,14 +10,14 @@ use lib.ListN.{length}
 use borrow.Author.Tests.{leb-true, eqb-true}
 use Rattle.number.specs.Questions.{firstNo, accepted}
 use Rattle.number.proofs.Split.{split}
-use Rattle.number.proofs.Each.{none, _&_, each-append}
-use Rattle.rules.specs.Chart.{classes, counts, countNumbers}
-use Rattle.rules.specs.declared.StreamCounts.{StreamCounts}
-use Rattle.rules.proofs.Lines.{OneLine, digits-line}
+use Rattle.number.proofs.Each.{none, _&_}
+use Rattle.rules.specs.Chart.{classes, counts}
+use Rattle.rules.proofs.Lines.{OneLine}
+use Rattle.counts_line.specs.CountsLine.{line, countsLine}
 use Rattle.record.specs.Record.{Fields, end, headCut, payloadCut, whole, fieldsOf, printable, isName, fieldNo, fieldsNo, nameOf, recordNo}
 use Rattle.stream_outputs.specs.Promises.{passNo}
 use Rattle.sheet_lines.specs.Sheet.{inputFits, places, textBytes, totalBytes, firstRefusal, chartOf, totalNo, sheetNo}
-use Rattle.sheet_lines.specs.Sheet.{line, partedBySpaces, countsLine, sheetKinds, textLines, sheetBytes}
+use Rattle.sheet_lines.specs.Sheet.{sheetKinds, textLines, sheetBytes}
 
 -- ---- the name
 
@@ -47,16 +47,6 @@ name-line (whole t p fs) h =
     split (eqb t 1)
     (λ e. rw e (named-field t p e (first-zero (fieldNo true t p) (fieldsNo false fs) h)))
     (λ e. rw e none)
-
--- ---- the counts
-
-spaced-line : (ns : List ℕ) → OneLine (partedBySpaces ns)
-spaced-line [] = none
-spaced-line (n ∷ []) = digits-line n
-spaced-line (n ∷ k ∷ ns) = each-append (digits-line n) (refl & spaced-line (k ∷ ns))
-
-pub counts-line : (c : StreamCounts) → OneLine (countsLine c)
-counts-line c = spaced-line (countNumbers c)
 
 -- ---- an accepted record
 

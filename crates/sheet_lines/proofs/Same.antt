@@ -14,11 +14,12 @@ use Rattle.rules.specs.Texts.{passKinds}
 use Rattle.rules.specs.declared.StreamCounts.{StreamCounts}
 use Rattle.rules.specs.declared.StreamBreakdownLevel.the-variants as Level
 use Rattle.rules.proofs.Demand.{same-length, same-text, same-texts}
+use Rattle.counts_line.specs.CountsLine.{line, countsLine}
 use Rattle.record.specs.Alike.{Alike}
 use Rattle.record.proofs.Same.{same-no}
 use Rattle.stream_outputs.specs.Promises.{passNo}
 use Rattle.sheet_lines.specs.Sheet.{places, textBytes, totalBytes, firstRefusal, chartOf, totalNo, sheetNo}
-use Rattle.sheet_lines.specs.Sheet.{line, countsLine, sheetKinds, textLines, sheetBytes}
+use Rattle.sheet_lines.specs.Sheet.{sheetKinds, textLines, sheetBytes}
 
 same-lines : (ks : List Kind) (a b : List ℕ) → classes a ≡ classes b → textLines ks a ≡ textLines ks b
 same-lines [] a b e = refl

@@ -6,7 +6,8 @@ use mathlib.Core.Path.{_≡_}
 use mathlib.Core.List.{List, [], _∷_, _++_}
 use Rattle.rules.specs.Bytes.{bytes}
 use Rattle.record.specs.Case12.{case12}
-use Rattle.sheet_lines.specs.Sheet.{line, sheetBytes}
+use Rattle.counts_line.specs.CountsLine.{line}
+use Rattle.sheet_lines.specs.Sheet.{sheetBytes}
 
 -- quoted lines, as bytes
 abbrev pub quotedLines : List String → List ℕ

@@ -8,12 +8,12 @@ use lib.ListN.{length, replicate}
 use Rattle.number.specs.Digits.{digits}
 use Rattle.number.specs.Questions.{Question, question, firstNo, accepted, filled, roomFor}
 use Rattle.rules.specs.Bytes.{bytes}
-use Rattle.rules.specs.Chart.{inDomain, classes, counts, countNumbers}
+use Rattle.rules.specs.Chart.{inDomain, classes, counts}
 use Rattle.rules.specs.declared.Kind.{Kind}
 use Rattle.rules.specs.declared.Kind.the-variants.{Standard as standard}
 use Rattle.rules.specs.Texts.{text, passKinds}
-use Rattle.rules.specs.declared.StreamCounts.{StreamCounts}
 use Rattle.rules.specs.declared.StreamBreakdownLevel.the-variants as Level
+use Rattle.counts_line.specs.CountsLine.{line, countsLine}
 use Rattle.record.specs.Record.{fieldsOf, densities, nameOf, recordNo}
 use Rattle.stream_outputs.specs.Promises.{passNo}
 use Rattle.sheet_lines.specs.declared.Sheet.{Sheet}
@@ -56,20 +56,6 @@ sheetNo input =
     ∷ passNo m places places textBytes
     ∷ totalNo m totalBytes
     ∷ [])
-
--- a line, ended by 0A
-abbrev pub line : List ℕ → List ℕ
-line xs = xs ++ (10 ∷ [])
-
--- numbers parted by one space
-abbrev pub partedBySpaces : List ℕ → List ℕ
-partedBySpaces [] = []
-partedBySpaces (n ∷ []) = digits n
-partedBySpaces (n ∷ k ∷ ns) = digits n ++ (bytes " " ++ partedBySpaces (k ∷ ns))
-
--- run16 run20 run24 run32 total_breaks sn_breaks lead tail
-abbrev pub countsLine : StreamCounts → List ℕ
-countsLine c = partedBySpaces (countNumbers c)
 
 -- the seven texts in the order of their lines
 abbrev pub sheetKinds : List Kind

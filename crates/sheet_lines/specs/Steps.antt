@@ -10,8 +10,9 @@ use Rattle.number.specs.Place.{Room}
 use Rattle.rules.specs.Bytes.{bytes}
 use Rattle.rules.specs.Chart.{classes, counts}
 use Rattle.rules.specs.declared.StreamCounts.{StreamCounts}
+use Rattle.counts_line.specs.CountsLine.{line, countsLine}
 use Rattle.stream_outputs.specs.Promises.{passNo}
-use Rattle.sheet_lines.specs.Sheet.{places, textBytes, totalBytes, firstRefusal, totalNo, line, partedBySpaces, countsLine, sheetKinds, textLines}
+use Rattle.sheet_lines.specs.Sheet.{places, textBytes, totalBytes, firstRefusal, totalNo, sheetKinds, textLines}
 
 -- the bytes xs at the slice's start, later places as they were; r is their number
 pub record AtStart (old new xs : List ℕ) (r : ℕ) : Type 0 where
@@ -30,11 +31,6 @@ pub record NameRoom (name out : List ℕ) : Type 0 where
 -- the line of a refusal
 abbrev pub refusalLine : ℕ → List ℕ
 refusalLine n = line (bytes "refused " ++ digits n)
-
--- some numbers, and room for them
-pub record NumbersRoom (out : List ℕ) (at : ℕ) (ns : List ℕ) : Type 0 where
-  pub some : 1 ≤ length ns
-  pub room : Room out at (partedBySpaces ns)
 
 -- the sum of some numbers
 abbrev pub sum : List ℕ → ℕ

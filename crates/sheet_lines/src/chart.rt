@@ -1,9 +1,9 @@
 // The lines of a record that was read.
-use crate::put::put_counts;
 use crate::put::put_line;
 use crate::put::put_refusal;
 use crate::put::put_texts;
 use chart_texts::single::stream_breakdown;
+use counts_line::put_counts;
 use rules::StreamBreakdownLevel;
 use rules::StreamCounts;
 use stream_outputs::compute_stream_outputs;
@@ -23,7 +23,7 @@ fn put_lines(
         (allLines (now (name .entry)) counts (now (texts .entry)) (now (lengths .entry)) (now (total .entry))) r ⌝ }
 {
     let a = put_line(out, 0, name);
-    let b = put_counts(out, a, counts);
+    let b = put_counts(out, a, counts, 0);
     let c = put_texts(out, b, texts, lengths);
     put_line(out, c, total)
 }

@@ -47,6 +47,7 @@ fn class_and_length(token: &Token) -> (u8, u32) {
 pub fn compare(m: &[usize], original: &Original, tally: &mut Tally) -> Outcome {
     let m = &densities(m);
     counts(m, original, tally)?;
+    board_counts(m, original, tally)?;
     read_off(m, original, tally)?;
     one_text(m, original, tally)?;
     three_texts(m, original, tally)?;
@@ -55,11 +56,12 @@ pub fn compare(m: &[usize], original: &Original, tally: &mut Tally) -> Outcome {
     passes(m, original, tally)
 }
 
-/// With slices of just what is due, for charts that are long.
+/// With slices of just what is due, for charts that are long; around it for the counts line for boards, which is short.
 pub fn compare_just_due(m: &[usize], original: &Original, tally: &mut Tally) -> Outcome {
     let m = &densities(m);
     let due = due_of(original);
     counts(m, original, tally)?;
+    board_counts(m, original, tally)?;
     segments(m, original, &[original.segments.len()], tally)?;
     pass(
         m,
@@ -92,6 +94,15 @@ fn counts(m: &[u32], original: &Original, tally: &mut Tally) -> Outcome {
     let same_classes: Vec<u32> = m.iter().map(|d| least(d).unwrap_or(0)).collect();
     let ours = lent::compute_stream_counts(&same_classes);
     tally.same("counts of equal classes", ours, due)
+}
+
+fn board_counts(m: &[u32], original: &Original, tally: &mut Tally) -> Outcome {
+    for room in rooms(original.board.len()) {
+        let mut out = Guarded::new(room, MARK);
+        let r = lent::board_counts(m, out.lend());
+        out.compare_text("lent board_counts", r, &original.board, tally)?;
+    }
+    Ok(())
 }
 
 /// Active part, share, alike, and tokens of the whole chart by the view and by number.
@@ -286,6 +297,7 @@ fn pass(m: &[u32], due: &Due, rooms: [usize; 3], tally: &mut Tally) -> Outcome {
 pub fn compare_refused(m: &[usize], tally: &mut Tally) -> Outcome {
     let m = &densities(m);
     refused_readings(m, tally)?;
+    refused_board_counts(m, tally)?;
     let mut classes = Guarded::new(m.len(), MARK);
     let mut lengths = Guarded::new(m.len(), MARK_LENGTH);
     let mut out = Guarded::new(17 * m.len() + 33, MARK);
@@ -307,6 +319,17 @@ pub fn compare_refused(m: &[usize], tally: &mut Tally) -> Outcome {
     lengths.compare("lengths", &[], tally)?;
     places.compare("segments", &[], tally)?;
     out.compare("texts", &[], tally)
+}
+
+/// Question 1 comes before question 4.
+fn refused_board_counts(m: &[u32], tally: &mut Tally) -> Outcome {
+    for room in rooms(64) {
+        let mut out = Guarded::new(room, MARK);
+        let r = lent::board_counts(m, out.lend());
+        tally.too_many("lent board_counts", r)?;
+        out.compare("lent board_counts", &[], tally)?;
+    }
+    Ok(())
 }
 
 /// The calls that write nothing, on a chart of too many measures.

@@ -1,6 +1,6 @@
 //! Compares the crate with the unchanged original: counts, segments, tokens and the seven texts by every call, and the places
-//! of lent slices that must not change. The original has no lead and no tail in its counts, no reader of chart records or of
-//! note rows, and no converter of SN texts; those are compared with plain ones.
+//! of lent slices that must not change. The original has no width of a number, no lead and no tail in its counts, no counts line
+//! for boards, no reader of chart records or of note rows, and no converter of SN texts; those are compared with plain ones.
 //!
 //! compare [--quick] [SEED]
 
@@ -15,6 +15,7 @@ mod note_rows;
 mod numbers;
 mod original;
 mod owned;
+mod plain_board;
 mod plain_ends;
 mod plain_record;
 mod plain_rows;

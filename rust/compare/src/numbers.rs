@@ -17,6 +17,7 @@ pub fn compare(tally: &mut Tally) -> Outcome {
     }
     for n in edges() {
         number(n, tally)?;
+        large_widths(n, tally)?;
         for (ours, theirs) in CLASSES {
             for star in [false, true] {
                 run_symbol(ours, theirs, n, star, tally)?;
@@ -38,16 +39,49 @@ fn edges() -> Vec<u64> {
     numbers
 }
 
+/// At every width. The original has none, and writes what is due at 0 and 1.
 fn number(n: u64, tally: &mut Tally) -> Outcome {
-    let mut due = String::new();
-    math::push_u64(&mut due, n);
+    let mut theirs = String::new();
+    math::push_u64(&mut theirs, n);
     let mut ours = String::new();
     puvolamie::push_u64(&mut ours, n);
-    tally.same("push_u64", &ours, &due)?;
+    tally.same("push_u64", &ours, &theirs)?;
+    for width in 0..=20 {
+        let due = format!("{n:>width$}");
+        if width < 2 {
+            tally.same("a number as Rust formats it", &due, &theirs)?;
+        }
+        at_width(n, width as u32, &due, tally)?;
+    }
+    Ok(())
+}
+
+fn at_width(n: u64, width: u32, due: &str, tally: &mut Tally) -> Outcome {
+    let mut ours = String::from("n ");
+    let r = puvolamie::push_u64_padded(&mut ours, n, width);
+    tally.same("push_u64_padded", r, Ok(()))?;
+    tally.same("push_u64_padded", ours, format!("n {due}"))?;
     for room in 0..=due.len() + 2 {
         let mut out = Guarded::new(room, 0xA5);
-        let r = lent::push_u64(out.lend(), n);
-        out.compare_text("lent push_u64", r, &due, tally)?;
+        let r = lent::push_u64(out.lend(), n, width);
+        out.compare_text("lent push_u64", r, due, tally)?;
+    }
+    Ok(())
+}
+
+/// Widths above 20: the refusal 20, before question 4, and nothing written.
+fn large_widths(n: u64, tally: &mut Tally) -> Outcome {
+    for width in [21, 22, u32::MAX] {
+        let mut ours = String::from("n ");
+        let r = puvolamie::push_u64_padded(&mut ours, n, width);
+        tally.same("a large width", r, Err(Refused(20)))?;
+        tally.same("a large width", ours.as_str(), "n ")?;
+        for room in [0, 1, 19, 20, 21, 24] {
+            let mut out = Guarded::new(room, 0xA5);
+            let r = lent::push_u64(out.lend(), n, width);
+            tally.same("lent, a large width", r, Err(Refused(20)))?;
+            out.compare("lent, a large width", &[], tally)?;
+        }
     }
     Ok(())
 }

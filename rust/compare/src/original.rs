@@ -1,7 +1,8 @@
-//! What the original answers, in the crate's types. It has no lead and no tail; they are worked out by a plain rule.
+//! What the original answers, in the crate's types. It has no lead, no tail and no counts line for boards; they are worked out by
+//! plain rules.
 
-use crate::plain_ends;
 use crate::streams;
+use crate::{plain_board, plain_ends};
 use puvolamie::{RunDensity, StreamCounts, StreamSegment, Texts, Token};
 
 pub const MODES: [(puvolamie::BreakdownMode, streams::BreakdownMode); 3] = [
@@ -49,9 +50,11 @@ pub const CLASSES: [(RunDensity, streams::RunDensity); 5] = [
     (RunDensity::Run32, streams::RunDensity::Run32),
 ];
 
-/// Counts, with lead and tail, segments, tokens of the whole chart and of the active part, and the texts: SN, standard, and Total.
+/// Counts, with lead and tail, their line for boards, segments, tokens of the whole chart and of the active part, and the texts:
+/// SN, standard, and Total.
 pub struct Original {
     pub counts: StreamCounts,
+    pub board: String,
     pub segments: Vec<StreamSegment>,
     pub all_tokens: Vec<Token>,
     pub tokens: Vec<Token>,
@@ -64,8 +67,10 @@ impl Original {
     /// The original's answers by its single calls; an error if its other calls give others.
     pub fn of(m: &[usize]) -> Result<Original, String> {
         let (counts, tokens) = streams::counts_and_tokens(m);
+        let all_counts = counts_of(counts, plain_ends::lead_and_tail(m));
         let original = Original {
-            counts: counts_of(counts, plain_ends::lead_and_tail(m)),
+            counts: all_counts,
+            board: plain_board::line(&all_counts),
             segments: streams::stream_sequences(m)
                 .into_iter()
                 .map(segment_of)

@@ -7,6 +7,7 @@ use puvolamie::{StreamCounts, Token};
 pub fn compare(m: &[usize], original: &Original, tally: &mut Tally) -> Outcome {
     pass(m, original, tally)?;
     counts(m, original, tally)?;
+    board_counts(m, original, tally)?;
     let ours = puvolamie::stream_sequences(m);
     tally.same("stream_sequences", ours.as_ref(), Ok(&original.segments))?;
     let (sn, standard) = (original.sn_texts(), original.standard_texts());
@@ -31,6 +32,14 @@ fn counts(m: &[usize], original: &Original, tally: &mut Tally) -> Outcome {
     tally.same("compute_stream_counts", ours, Ok(original.counts))?;
     let sum = ours.map(measures_in);
     tally.same("the sum of the counts", sum, Ok(m.len()))
+}
+
+/// The counts line for boards, which has 64 bytes for every chart.
+fn board_counts(m: &[usize], original: &Original, tally: &mut Tally) -> Outcome {
+    let ours = puvolamie::board_counts(m);
+    tally.same("board_counts", ours.as_ref(), Ok(&original.board))?;
+    let bytes = ours.map(|line| line.len());
+    tally.same("bytes of the counts line for boards", bytes, Ok(64))
 }
 
 fn measures_in(c: StreamCounts) -> usize {
@@ -69,6 +78,7 @@ pub fn compare_refused(m: &[usize], tally: &mut Tally) -> Outcome {
     tally.too_many("compute_stream_outputs", pass)?;
     let counts = puvolamie::compute_stream_counts(m);
     tally.too_many("compute_stream_counts", counts)?;
+    tally.too_many("board_counts", puvolamie::board_counts(m))?;
     tally.too_many("generate_breakdowns", puvolamie::generate_breakdowns(m))?;
     tally.too_many("stream_breakdowns", puvolamie::stream_breakdowns(m))?;
     tally.too_many("stream_sequences", puvolamie::stream_sequences(m))?;

@@ -1,5 +1,6 @@
 -- `sheet_lines::chart::put_lines` meets its contract.
 -- Assumes nothing.
+use native.Mathlib.Omega.{arith}
 use Rattle.number.proofs.Place.{room-first, room-next, wrote}
 use Rattle.sheet_lines.proofs.Numbers.{started}
 use borrow.Author.Needs.{needs}
@@ -12,7 +13,7 @@ put-line-requires c κs = room-first _ _ (c .before .before .before .before .bef
 put-counts-requires : tie.Need-put-counts-requires
 put-counts-requires c κs =
     let l = c .before .before .before in
-    room-first _ _ (room-next _ _ (l .put-line .ensures) (l .before .before .before .before .before .before .before .pre .room))
+    (omega arith, room-first _ _ (room-next _ _ (l .put-line .ensures) (l .before .before .before .before .before .before .before .pre .room)))
 
 put-texts-requires : tie.Need-put-texts-requires
 put-texts-requires c κs =

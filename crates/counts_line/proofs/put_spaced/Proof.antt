@@ -1,23 +1,23 @@
--- `sheet_lines::put::put_spaced` meets its contract.
+-- `counts_line::put_spaced` meets its contract.
 -- Assumes nothing.
-use Rattle.number.specs.Digits.{digits}
+use Rattle.number.specs.Digits.{padded}
 use Rattle.rules.specs.Bytes.{bytes}
 use Rattle.number.proofs.Place.{room-first, room-next, wrote}
 use borrow.Author.Needs.{needs}
-use Rattle.sheet_lines.proofs.put.put_spaced.Statement.{statement}
-use Rattle.sheet_lines.proofs.put.put_spaced.Tie as tie
+use Rattle.counts_line.proofs.put_spaced.Statement.{statement}
+use Rattle.counts_line.proofs.put_spaced.Tie as tie
 
 slice-aggregate-put-bytes : tie.Need-slice-aggregate-put-bytes
 slice-aggregate-put-bytes c = search needs
 
 put-bytes-requires : tie.Need-put-bytes-requires
-put-bytes-requires c κs = room-first (bytes " ") (digits (c .before .before .before .args .n)) (c .before .before .before .pre)
+put-bytes-requires c κs = let s = c .before .before .before in room-first (bytes " ") (padded (s .args .width) (s .args .n)) (s .pre .1)
 
 put-u64-requires : tie.Need-put-u64-requires
 put-u64-requires c κs =
     let w = c .before .before .before in
     let s = w .before .before .before .before in
-    room-next (bytes " ") (digits (s .args .n)) (w .put-bytes .ensures) (s .pre)
+    (s .pre .0, room-next (bytes " ") (padded (s .args .width) (s .args .n)) (w .put-bytes .ensures) (s .pre .1))
 
 same-length : tie.Need-same-length
 same-length c = search needs

@@ -1,4 +1,4 @@
--- `sheet_lines::put::put_numbers` meets its contract.
+-- `counts_line::put_numbers` meets its contract.
 -- Assumes nothing.
 use Prim.Native.Nat.{_-_}
 use mathlib.Core.Path.{_∙_}
@@ -6,16 +6,16 @@ use mathlib.Core.List.{[]}
 use native.Mathlib.Omega.{arith}
 use lib.ListN.{length}
 use Rattle.number.proofs.Place.{wrote-length}
-use Rattle.sheet_lines.proofs.Numbers.{Numbering, put-long, next-room, put-next, first-room, put-first, put-all}
+use Rattle.counts_line.proofs.Numbers.{Numbering, put-long, next-room, put-next, first-room, put-first, put-all}
 use borrow.Author.Needs.{needs}
-use Rattle.sheet_lines.proofs.put.put_numbers.Statement.{statement}
-use Rattle.sheet_lines.proofs.put.put_numbers.Tie as tie
+use Rattle.counts_line.proofs.put_numbers.Statement.{statement}
+use Rattle.counts_line.proofs.put_numbers.Tie as tie
 
 abbrev Inv-loop : tie.InvT-loop
-Inv-loop out₀ at numbers place₀ i₀ out place i = Numbering numbers out₀ place₀ out place i
+Inv-loop out₀ at numbers width place₀ i₀ out place i = Numbering width numbers out₀ place₀ out place i
 
 abbrev μ-loop : tie.MeasureT-loop
-μ-loop out₀ at numbers place₀ i₀ out place i = length numbers - i
+μ-loop out₀ at numbers width place₀ i₀ out place i = length numbers - i
 
 shared-slice-read-put-u64 : tie.Need-shared-slice-read-put-u64 Inv-loop μ-loop
 shared-slice-read-put-u64 c = search needs
@@ -24,7 +24,7 @@ cast-put-u64 : tie.Need-cast-put-u64 Inv-loop μ-loop
 cast-put-u64 c = omega (arith, c .shared-slice-known2 .given 0)
 
 put-u64-requires : tie.Need-put-u64-requires Inv-loop μ-loop
-put-u64-requires c κs = first-room (c .before .before .before .before .pre)
+put-u64-requires c κs = let p = c .before .before .before .before .pre in (p .narrow, first-room p)
 
 loop-holds : tie.Need-loop-holds Inv-loop μ-loop
 loop-holds c = put-first (c .before .before .before .before .before .before .before .pre) (c .before .before .put-u64 .ensures)
@@ -36,7 +36,9 @@ shared-slice-read-put-spaced : tie.Need-shared-slice-read-put-spaced Inv-loop μ
 shared-slice-read-put-spaced c = search needs
 
 put-spaced-requires : tie.Need-put-spaced-requires Inv-loop μ-loop
-put-spaced-requires c κs = next-room (c .before .before .before .loop .inv) (c .before .before .loop-test .taken)
+put-spaced-requires c κs =
+    let l = c .before .before .before in
+    (l .before .before .before .before .before .before .before .before .pre .narrow, next-room (l .loop .inv) (c .before .before .loop-test .taken))
 
 add-i : tie.Need-add-i Inv-loop μ-loop
 add-i c = search needs

@@ -1,0 +1,6 @@
+pub mod Numbers
+pub mod Lines
+pub mod Bound
+pub mod Answers
+pub mod Same
+pub mod Laws

@@ -1,0 +1,4 @@
+pub mod CountsLine
+pub mod Promises
+pub mod Steps
+pub mod Laws
