@@ -1,22 +1,22 @@
 -- Demand 2 holds: what a promise says of an accepted call.
 -- Assumes nothing.
-use Prim.Native.Nat.{ℕ, zero, suc}
+use Prim.Native.Nat.{ℕ, zero, suc, ◌≤◌}
 use mathlib.Core.Path.{◌≡◌, refl, sym, ap, ◌∙◌}
 use mathlib.Core.Bool.{false}
 use mathlib.Core.List.{List, [], ◌∷◌}
 use native.Mathlib.Omega.{arith}
-use lib.ListN.{length}
+use lib.Dec.{leb}
+use lib.ListN.{length, replicate}
 use lib.Seq.{take-append_seam}
-use borrow.Author.Tests.{le-leb, lt-leb}
-use Rattle.number.specs.Questions.{first_no, accepted, OneText}
-use Rattle.number.specs.declared.Written.{Written}
+use borrow.Author.Tests.{leb-true}
+use Rattle.number.specs.Questions.{first_no, accepted}
+use Rattle.number.proofs.Split.{split}
 use Rattle.number.proofs.Questions.{accepted-is as kept, text-accepted}
 use Rattle.rules.specs.Bytes.{same_bytes}
-use Rattle.rules.specs.Chart.{in_domain, classes, class_number, counts, no_counts}
-use Rattle.rules.specs.declared.Kind.{Kind}
+use Rattle.rules.specs.Chart.{in_domain, classes, class_number, tokens, counts, no_counts}
 use Rattle.rules.specs.declared.Kind.TheVariants.{Standard as standard}
-use Rattle.rules.specs.Texts.{text}
-use Rattle.rules.specs.Calls.{share, step_at, after_step}
+use Rattle.rules.specs.Texts.{text, pass_kinds, lengths_of}
+use Rattle.rules.specs.Calls.{share, step_at, after_step, label_choice}
 use Rattle.rules.specs.declared.RunDensity.{RunDensity}
 use Rattle.rules.specs.declared.RunDensity.TheVariants.{Run32, Run24, Run20, Run16, Break}
 use Rattle.rules.specs.declared.StreamBreakdownLevel.TheVariants as Level
@@ -29,19 +29,18 @@ use Rattle.token_view.specs.Promises.{no_token}
 use Rattle.segments.specs.Promises.{segments_no, no_segment, nth_segment}
 use Rattle.segments.specs.declared.SegmentsAnswer.{SegmentsAnswer}
 use Rattle.segments.specs.declared.NthSegment.{NthSegment}
-use Rattle.record.specs.Record.{record_no}
+use Rattle.record.specs.Record.{fields_of, densities, name_of, record_no}
 use Rattle.record.specs.declared.RecordAnswer.{RecordAnswer}
-use Rattle.note_rows.specs.NoteRows.{note_rows_no}
+use Rattle.note_rows.specs.NoteRows.{row_densities, note_rows_no}
 use Rattle.note_rows.specs.declared.RowsAnswer.{RowsAnswer}
-use Rattle.chart_texts.specs.Promises.{three_no, Breakdowns}
+use Rattle.chart_texts.specs.Promises.{three_no}
 use Rattle.chart_texts.specs.declared.ThreeWritten.{ThreeWritten}
-use Rattle.label.specs.Promises.{label_no}
+use Rattle.label.specs.Promises.{label_text, label_level, label_no, pair_choice}
 use Rattle.label.specs.declared.LabelWritten.{LabelWritten}
 use Rattle.stream_outputs.specs.Promises.{pass_no}
 use Rattle.stream_outputs.specs.declared.StreamOutputs.{StreamOutputs}
 use Rattle.sheet_lines.specs.Sheet.{sheet_bytes}
-use Rattle.sheet_lines.proofs.Lines.{sheet-lines}
-use Rattle.acceptance.specs.Accepted.{Writes, WritesThree, PairCases, Accepted}
+use Rattle.acceptance.specs.Accepted.{Accepted}
 
 kept-segment : (q : ℕ) (x : NthSegment) → (accepted q x (record { refused = q; found = false; segment = no_segment })).refused ≡ 0
     → accepted q x (record { refused = q; found = false; segment = no_segment }) ≡ x
@@ -66,66 +65,60 @@ class_back Run32 = refl
 one_class : (r s : RunDensity) → class_number r ≡ class_number s → r ≡ s
 one_class r s e = sym (class_back r) ∙ ap class_back e ∙ class_back s
 
-pair-cases : (first second : List ℕ) (width : ℕ) → PairCases first second width
-pair-cases first second width =
-    record {
-      first_fits = λ h. rw (le-leb (length first) width h);
-      second_fits = λ h k. rw (lt-leb (length first) width h, le-leb (length second) width k);
-      none_fits = λ h k. rw (lt-leb (length first) width h, lt-leb (length second) width k);
-    }
-
--- every call that writes one text
-accepted-text : {q : ℕ} {due old new : List ℕ} {r : Written} → OneText q due old new r → Writes due old new r
-accepted-text {q} {due} {old} {new} {r} p h = let w = text-accepted q due old new r p h in (p.answer ∙ rw w.0, w.2)
-
--- the calls that write three
-accepted-texts : (ks : List Kind) (m old new : List ℕ) (r : ThreeWritten) → Breakdowns ks m old new r → WritesThree ks m old new r
-accepted-texts ks m old new r p h =
-    let q = three_no ks m old in
-    let z : q ≡ 0 = sym (ap (λ (w : ThreeWritten). w.refused) p.answer) ∙ h in
-    (p.answer ∙ rw z, p.bytes ∙ kept q _ _ z)
+pair_fits : (first second : List ℕ) (width : ℕ) → length (pair_choice first second width) ≤ width
+pair_fits first second width =
+    split (leb (length first) width)
+    (λ e. rw e (leb-true (length first) width e))
+    (λ e. split (leb (length second) width) (λ f. rw (e, f) (leb-true (length second) width f)) (λ f. rw (e, f) (omega arith)))
 
 pub all-accepted : Accepted
 unfolding nth_segment
 all-accepted =
     record {
-      push_u64 = λ n width old new r. accepted-text;
-      categorize_measure_density = λ d r s p q. one_class r s (p ∙ sym q);
-      active_range = active-part;
-      compute_stream_counts = λ m h. kept (first_no (in_domain m ∷ [])) (counts (classes m)) no_counts h;
-      board_counts = λ m old new r. accepted-text;
+      one_text = λ q text old new r p h. let w = text-accepted q text old new r p h in (w.1, w.2);
+      breakdowns = λ ks m old new r p h.
+          let q = three_no ks m old in
+          let z : q ≡ 0 = sym (ap (λ (w : ThreeWritten). w.refused) p.answer) ∙ h in
+          (ap (λ (w : ThreeWritten). w.lengths) p.answer ∙ kept q _ _ z, p.bytes ∙ kept q _ _ z);
+      outputs = λ m cs cs' ns ns' old new r p h.
+          let q = pass_no m cs ns old in
+          let z : q ≡ 0 = sym (ap (λ (w : StreamOutputs). w.refused) p.answer) ∙ h in
+          let cs₁ = kept q (counts (classes m)) no_counts z in
+          let ts₁ = kept q (length (tokens (classes m))) 0 z in
+          let ls₁ = kept q (lengths_of pass_kinds m) (replicate 6 0) z in
+          (p.answer ∙ rw (cs₁, ts₁, ls₁, z), p.in_classes ∙ kept q _ _ z, p.in_lengths ∙ kept q _ _ z, p.bytes ∙ kept q _ _ z);
+      label = λ width m old new r p h.
+          let q = label_no width m old in
+          let z : q ≡ 0 = sym (ap (λ (w : LabelWritten). w.refused) p.answer) ∙ h in
+          (p.answer ∙ rw (kept q (label_level (label_choice width m)) 0 z, kept q (length (label_text (label_choice width m) m)) 0 z, z), p.bytes ∙ kept q _ _ z);
+      segments = λ m old new r p h.
+          let q = segments_no m old in
+          let z : q ≡ 0 = sym (ap (λ (w : SegmentsAnswer). w.refused) p.answer) ∙ h in
+          (ap (λ (w : SegmentsAnswer). w.count) p.answer ∙ kept q _ _ z, p.records ∙ kept q _ _ z);
+      chart_record = λ bytes old new r p h.
+          let q = record_no bytes old in
+          let z : q ≡ 0 = sym (ap (λ (w : RecordAnswer). w.refused) p.answer) ∙ h in
+          let ds₁ = kept q (length (densities (fields_of bytes))) 0 z in
+          let name₁ = kept q (length (name_of (fields_of bytes))) 0 z in
+          (p.answer ∙ rw (ds₁, kept {A = ℕ} q 3 0 z, name₁, z), p.placed ∙ kept q _ _ z);
+      note_rows = λ text old new r p h.
+          let q = note_rows_no text old in
+          let z : q ≡ 0 = sym (ap (λ (w : RowsAnswer). w.refused) p.answer) ∙ h in
+          (p.answer ∙ rw (kept q (length (row_densities text)) 0 z, z), p.placed ∙ kept q _ _ z);
+      view = λ m q v o h. o.left ∙ kept _ m [] (sym o.number ∙ h);
+      counts = λ m h. kept (first_no (in_domain m ∷ [])) (counts (classes m)) no_counts h;
       share = λ m h. (kept (first_no (in_domain m ∷ has_stream m ∷ [])) (share (classes m)) 0 h, share-most (classes m));
       alike = λ a b h.
           let x = text (standard Level.Detailed) a in
           let y = text (standard Level.Detailed) b in
           rw (kept (first_no (in_domain a ∷ in_domain b ∷ [])) (same_bytes x y) false h) (same-exactly x y);
-      stream_tokens = λ m q v o h. o.left ∙ kept _ m [] (sym o.number ∙ h);
-      next_token = λ v said next s h.
+      nth_token = λ k m h. kept (first_no (in_domain m ∷ [])) (step_at k m) no_token h;
+      step = λ v said next s h.
           let e = kept (first_no (in_domain v ∷ [])) v [] (within v h) in
           (s.token ∙ ap (step_at 0) e, s.left ∙ ap after_step e);
-      nth_token = λ k m h. kept (first_no (in_domain m ∷ [])) (step_at k m) no_token h;
-      stream_sequences = λ m old new r p h.
-          let z : segments_no m old ≡ 0 = sym (ap (λ (w : SegmentsAnswer). w.refused) p.answer) ∙ h in
-          (p.answer ∙ rw z, p.records ∙ rw z);
       segment_at = λ k m h. kept-segment (first_no (in_domain m ∷ [])) _ h;
-      read_chart_record = λ bytes old new r p h.
-          let z : record_no bytes old ≡ 0 = sym (ap (λ (w : RecordAnswer). w.refused) p.answer) ∙ h in
-          (p.answer ∙ rw z, p.placed ∙ rw z);
-      read_note_rows = λ text old new r p h.
-          let z : note_rows_no text old ≡ 0 = sym (ap (λ (w : RowsAnswer). w.refused) p.answer) ∙ h in
-          (p.answer ∙ rw z, p.placed ∙ rw z);
-      format_run_symbol = λ c n star old new r. accepted-text;
-      sn_to_standard = λ t old new r. accepted-text;
-      generate_breakdown = λ mode m old new r. accepted-text;
-      stream_breakdown = λ level m old new r. accepted-text;
-      generate_breakdowns = accepted-texts _;
-      stream_breakdowns = accepted-texts _;
-      label = λ width m old new r p h.
-          let z : label_no width m old ≡ 0 = sym (ap (λ (w : LabelWritten). w.refused) p.answer) ∙ h in
-          (p.answer ∙ rw z, p.bytes ∙ rw z);
-      label_pair = pair-cases;
-      compute_stream_outputs = λ m cs cs' ns ns' old new r p h.
-          let z : pass_no m cs ns old ≡ 0 = sym (ap (λ (w : StreamOutputs). w.refused) p.answer) ∙ h in
-          (p.answer ∙ rw z, p.in_classes ∙ rw z, p.in_lengths ∙ rw z, p.bytes ∙ rw z);
-      print_sheet = λ input r p h. rw p.answer (take-append_seam (sheet_bytes input) _ ∙ sheet-lines input h);
+      sheet = λ input r p. rw p.answer (take-append_seam (sheet_bytes input) _);
+      class = λ d r s p q. one_class r s (p ∙ sym q);
+      active_range = active-part;
+      pair = pair_fits;
     }

@@ -21,18 +21,16 @@ use Rattle.acceptance.specs.FirstHalf.{OfCharts, FirstHalf}
 of-charts : (a b : List ℕ) → classes a ≡ classes b → OfCharts a b
 of-charts a b e =
     record {
-      compute_stream_counts = same-counts a b e;
+      counts = same-counts a b e;
       share = same-share a b e;
       segment_at = segments.same-nth a b e;
       nth_token = token-view.same-nth a b e;
-      stream_sequences = λ old new₁ new₂ r₁ r₂ p q. segments.same-segments a b e p q;
-      stream_tokens = λ n no₁ no₂ v₁ v₂ t₁ t₂ p q. token-view.same_view a b e p q;
-      generate_breakdown = λ mode old new₁ new₂ r₁ r₂ p q. same-breakdown a b e _ p q;
-      stream_breakdown = λ level old new₁ new₂ r₁ r₂ p q. same-breakdown a b e _ p q;
-      generate_breakdowns = λ old new₁ new₂ r₁ r₂ p q. same-breakdowns a b e _ p q;
-      stream_breakdowns = λ old new₁ new₂ r₁ r₂ p q. same-breakdowns a b e _ p q;
+      segments = λ old new₁ new₂ r₁ r₂ p q. segments.same-segments a b e p q;
+      token_view = λ n no₁ no₂ v₁ v₂ t₁ t₂ p q. token-view.same_view a b e p q;
+      breakdown = λ k old new₁ new₂ r₁ r₂ p q. same-breakdown a b e k p q;
+      breakdowns = λ ks old new₁ new₂ r₁ r₂ p q. same-breakdowns a b e ks p q;
       board_counts = λ old new₁ new₂ r₁ r₂ p q. same-board-counts a b e p q;
-      compute_stream_outputs = λ cs cs₁ cs₂ ns ns₁ ns₂ old new₁ new₂ r₁ r₂ p q. same-outputs a b e p q;
+      outputs = λ cs cs₁ cs₂ ns ns₁ ns₂ old new₁ new₂ r₁ r₂ p q. same-outputs a b e p q;
       label = λ width old new₁ new₂ r₁ r₂ p q. same-label a b e width p q;
     }
 
@@ -41,7 +39,7 @@ first-half =
     record {
       charts = λ a b s. of-charts a b (same-classes a b s);
       alike = λ a b c d s t. same_alike a b (same-classes a b s) c d (same-classes c d t);
-      print_sheet = λ a b r₁ r₂ s p q. p.answer ∙ rw (same-sheet a b s) (sym q.answer);
+      sheet = λ a b r₁ r₂ s p q. p.answer ∙ rw (same-sheet a b s) (sym q.answer);
       cut = λ a b s. same-ending a b s.long s.sized;
-      read_chart_record = λ a b old new₁ new₂ r₁ r₂ s p q. same-record a b s p q;
+      chart_record = λ a b old new₁ new₂ r₁ r₂ s p q. same-record a b s p q;
     }

@@ -1,4 +1,3 @@
-pub mod Questions
 pub mod Written
 pub mod Refusals
 pub mod Accepted

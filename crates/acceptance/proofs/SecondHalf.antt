@@ -23,11 +23,11 @@ use Rattle.label.specs.Promises.{label_text, label_level}
 use Rattle.label.specs.declared.LabelWritten.{LabelWritten}
 use Rattle.stream_outputs.specs.declared.StreamOutputs.{StreamOutputs}
 use Rattle.sn_to_standard.specs.Laws.{sn_text, standard_text}
+use Rattle.sn_to_standard.proofs.Laws.{laws}
 use Rattle.sheet_lines.specs.Sheet.{text_lines, sheet_no, sheet_kinds, chart_of, Printed}
 use Rattle.sheet_lines.specs.declared.Sheet.{Sheet}
 use Rattle.counts_line.proofs.Lines.{counts-line}
 use Rattle.acceptance.specs.SecondHalf.{nth, KindAt, after_line, line_at, TextWritten, single, three, pass, label, converted, sheet, SecondHalf}
-use Rattle.acceptance.proofs.Conversion.{wrote}
 use Rattle.acceptance.proofs.Written.{marked-off, nth-text, after_line, line-text, after-name}
 
 -- several texts end to end, refused by the number q or not
@@ -88,7 +88,7 @@ written-text (label width l m old new r p e h) =
     marked-off _ (label_text (label_choice width m) m) old new r.length accept (ap (λ (w : LabelWritten). w.length) p.answer) p.bytes
     ∙ labelled _ (label_choice width m) l m accept (sym h ∙ ap (λ (w : LabelWritten). w.level) p.answer)
 written-text (converted m old new r p e) =
-    let w = wrote (sn_text m) old new r p e m refl in
+    let w = (laws.answers (sn_text m) old new r p).right e m refl in
     rw (w.0, w.1) (take-append_seam (standard_text m) (drop (length (standard_text m)) old))
 written-text (sheet i k input r h p e) = printed-text i k input r h p e
 

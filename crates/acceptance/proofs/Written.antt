@@ -15,7 +15,7 @@ use Rattle.rules.proofs.Lines.{OneLine, text-line}
 use Rattle.counts_line.specs.CountsLine.{line, counts_line}
 use Rattle.sheet_lines.specs.Sheet.{text_lines, sheet_no, sheet_kinds, chart_of, Printed}
 use Rattle.sheet_lines.specs.declared.Sheet.{Sheet}
-use Rattle.sheet_lines.proofs.Lines.{one-line-name}
+use Rattle.sheet_lines.proofs.Lines.{one-line-name, sheet-lines}
 use Rattle.acceptance.specs.SecondHalf.{nth, KindAt, first_line, after_line, line_at}
 use Rattle.acceptance.proofs.Accepted.{all-accepted}
 
@@ -51,4 +51,4 @@ line-text (k ∷ ks) (suc i) k' m h = rw (after_line (text_lines ks m) (text-lin
 pub after-name : (input : List ℕ) (r : Sheet) → Printed input r → sheet_no input ≡ 0
     → after_line (take r.length r.bytes) ≡ line (counts_line (counts (classes (chart_of input)))) ++ text_lines sheet_kinds (chart_of input)
 after-name input r p e =
-    ap after_line (all-accepted.print_sheet input r p e) ∙ after_line _ (one-line-name input e)
+    ap after_line (all-accepted.sheet input r p ∙ sheet-lines input e) ∙ after_line _ (one-line-name input e)

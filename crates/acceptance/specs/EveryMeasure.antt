@@ -16,15 +16,15 @@ use Rattle.acceptance.specs.SecondHalf.{line_at}
 
 pub record EveryMeasure : Type 0 where
   -- compute_stream_outputs
-  pub compute_stream_outputs : (m cs cs' ns ns' old new : List ℕ) (r : StreamOutputs) → Outputs m cs cs' ns ns' old new r → r.refused ≡ 0
+  pub outputs : (m cs cs' ns ns' old new : List ℕ) (r : StreamOutputs) → Outputs m cs cs' ns ns' old new r → r.refused ≡ 0
       → AllCounted m r.counts
   -- print_sheet: the second line, after the name
-  pub print_sheet : (input : List ℕ) (r : Sheet) → Printed input r → sheet_no input ≡ 0
+  pub sheet : (input : List ℕ) (r : Sheet) → Printed input r → sheet_no input ≡ 0
       → let c = counts (classes (chart_of input)) in
       (line_at 1 (take r.length r.bytes) ≡ counts_line c) × AllCounted (chart_of input) c
   -- board_counts: the line of such counts, at width 7
-  pub board_counts : (m old new : List ℕ) (r : Written) → BoardCounts m old new r → r.refused ≡ 0
+  pub board : (m old new : List ℕ) (r : Written) → BoardCounts m old new r → r.refused ≡ 0
       → let c = counts (classes m) in
       (take r.length new ≡ line (board_line c)) × AllCounted m c
   -- compute_stream_counts
-  pub compute_stream_counts : (m : List ℕ) → (counts_answer m).refused ≡ 0 → AllCounted m (counts_answer m).counts
+  pub counts : (m : List ℕ) → (counts_answer m).refused ≡ 0 → AllCounted m (counts_answer m).counts

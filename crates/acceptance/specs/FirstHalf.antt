@@ -5,10 +5,7 @@
 use Rattle.std.specs.Prelude.{ℕ, ◌<◌, ◌≡◌, List}
 use Rattle.number.specs.declared.Written.{Written}
 use Rattle.rules.specs.Demand.{SameClasses}
-use Rattle.rules.specs.declared.Kind.TheVariants.{Sn as sn, Standard as standard}
-use Rattle.rules.specs.Texts.{sn_kinds, standard_kinds}
-use Rattle.rules.specs.declared.BreakdownMode.{BreakdownMode}
-use Rattle.rules.specs.declared.StreamBreakdownLevel.{StreamBreakdownLevel}
+use Rattle.rules.specs.declared.Kind.{Kind}
 use Rattle.rules.specs.declared.StreamSegment.{StreamSegment}
 use Rattle.rules.specs.declared.ViewToken.{ViewToken}
 use Rattle.counts.specs.Promises.{counts_answer, share_answer}
@@ -34,32 +31,26 @@ use Rattle.sheet_lines.specs.declared.Sheet.{Sheet}
 -- the calls on a chart given as a density slice
 pub record OfCharts (a b : List ℕ) : Type 0 where
   -- compute_stream_counts, share, segment_at and nth_token lend no slice but the chart's own
-  pub compute_stream_counts : counts_answer a ≡ counts_answer b
+  pub counts : counts_answer a ≡ counts_answer b
   pub share : share_answer a ≡ share_answer b
   pub segment_at : (k : ℕ) → nth_segment k a ≡ nth_segment k b
   pub nth_token : (k : ℕ) → nth_answer k a ≡ nth_answer k b
   -- stream_sequences
-  pub stream_sequences : (old new₁ new₂ : List StreamSegment) (r₁ r₂ : SegmentsAnswer)
+  pub segments : (old new₁ new₂ : List StreamSegment) (r₁ r₂ : SegmentsAnswer)
       → Segmented a old new₁ r₁ → Segmented b old new₂ r₂ → (r₁ ≡ r₂) × (new₁ ≡ new₂)
   -- stream_tokens and next_token: the number that the view opens with, and every step, each from the view that the step before left
-  pub stream_tokens : (n no₁ no₂ : ℕ) (v₁ v₂ : ℕ → List ℕ) (t₁ t₂ : ℕ → ViewToken)
+  pub token_view : (n no₁ no₂ : ℕ) (v₁ v₂ : ℕ → List ℕ) (t₁ t₂ : ℕ → ViewToken)
       → Stepped a n no₁ v₁ t₁ → Stepped b n no₂ v₂ t₂ → (no₁ ≡ no₂) × ((k : ℕ) → k < n → t₁ k ≡ t₂ k)
-  -- generate_breakdown
-  pub generate_breakdown : (mode : BreakdownMode) (old new₁ new₂ : List ℕ) (r₁ r₂ : Written)
-      → Breakdown (sn mode) a old new₁ r₁ → Breakdown (sn mode) b old new₂ r₂ → (r₁ ≡ r₂) × (new₁ ≡ new₂)
-  -- stream_breakdown
-  pub stream_breakdown : (level : StreamBreakdownLevel) (old new₁ new₂ : List ℕ) (r₁ r₂ : Written)
-      → Breakdown (standard level) a old new₁ r₁ → Breakdown (standard level) b old new₂ r₂ → (r₁ ≡ r₂) × (new₁ ≡ new₂)
-  -- generate_breakdowns
-  pub generate_breakdowns : (old new₁ new₂ : List ℕ) (r₁ r₂ : ThreeWritten)
-      → Breakdowns sn_kinds a old new₁ r₁ → Breakdowns sn_kinds b old new₂ r₂ → (r₁ ≡ r₂) × (new₁ ≡ new₂)
-  -- stream_breakdowns
-  pub stream_breakdowns : (old new₁ new₂ : List ℕ) (r₁ r₂ : ThreeWritten)
-      → Breakdowns standard_kinds a old new₁ r₁ → Breakdowns standard_kinds b old new₂ r₂ → (r₁ ≡ r₂) × (new₁ ≡ new₂)
+  -- generate_breakdown and stream_breakdown, by mode and level
+  pub breakdown : (k : Kind) (old new₁ new₂ : List ℕ) (r₁ r₂ : Written)
+      → Breakdown k a old new₁ r₁ → Breakdown k b old new₂ r₂ → (r₁ ≡ r₂) × (new₁ ≡ new₂)
+  -- generate_breakdowns and stream_breakdowns
+  pub breakdowns : (ks : List Kind) (old new₁ new₂ : List ℕ) (r₁ r₂ : ThreeWritten)
+      → Breakdowns ks a old new₁ r₁ → Breakdowns ks b old new₂ r₂ → (r₁ ≡ r₂) × (new₁ ≡ new₂)
   -- board_counts
   pub board_counts : (old new₁ new₂ : List ℕ) (r₁ r₂ : Written) → BoardCounts a old new₁ r₁ → BoardCounts b old new₂ r₂ → (r₁ ≡ r₂) × (new₁ ≡ new₂)
   -- compute_stream_outputs
-  pub compute_stream_outputs : (cs cs₁ cs₂ ns ns₁ ns₂ old new₁ new₂ : List ℕ) (r₁ r₂ : StreamOutputs)
+  pub outputs : (cs cs₁ cs₂ ns ns₁ ns₂ old new₁ new₂ : List ℕ) (r₁ r₂ : StreamOutputs)
       → Outputs a cs cs₁ ns ns₁ old new₁ r₁ → Outputs b cs cs₂ ns ns₂ old new₂ r₂
       → (r₁ ≡ r₂) × (cs₁ ≡ cs₂) × (ns₁ ≡ ns₂) × (new₁ ≡ new₂)
   -- label
@@ -70,10 +61,10 @@ pub record FirstHalf : Type 0 where
   pub charts : (a b : List ℕ) → SameClasses a b → OfCharts a b
   -- alike takes two charts
   pub alike : (a b c d : List ℕ) → SameClasses a b → SameClasses c d → alike_answer a c ≡ alike_answer b d
-  -- print_sheet: records of the same length in bytes, name, tags and field lengths, and equal classes at the densities of their whole fields
-  pub print_sheet : (a b : List ℕ) (r₁ r₂ : Sheet) → Alike a b → Printed a r₁ → Printed b r₂ → r₁ ≡ r₂
+  -- sheet: records of the same length in bytes, name, tags and field lengths, and equal classes at the densities of their whole fields
+  pub sheet : (a b : List ℕ) (r₁ r₂ : Sheet) → Alike a b → Printed a r₁ → Printed b r₂ → r₁ ≡ r₂
   -- such records are cut in the same way, if they are cut
   pub cut : (a b : List ℕ) → Alike a b → ending (fields_of a) ≡ ending (fields_of b)
   -- read_chart_record gives the same answer for both; the densities that it writes are each chart's own
-  pub read_chart_record : (a b old new₁ new₂ : List ℕ) (r₁ r₂ : RecordAnswer)
+  pub chart_record : (a b old new₁ new₂ : List ℕ) (r₁ r₂ : RecordAnswer)
       → Alike a b → ReadRecord a old new₁ r₁ → ReadRecord b old new₂ r₂ → r₁ ≡ r₂

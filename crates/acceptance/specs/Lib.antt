@@ -1,4 +1,3 @@
-pub mod Questions
 pub mod Refusals
 pub mod Accepted
 pub mod FirstHalf

@@ -8,17 +8,17 @@ use mathlib.Core.List.{List, [], ◌∷◌, ◌++◌}
 use native.Mathlib.Omega.{arith}
 use lib.Dec.{ltb, eqb}
 use lib.ListN.{length, get_or, length-map, get_or-map}
-use borrow.Author.Tests.{ltb-true, lt-ltb}
+use borrow.Author.Tests.{ltb-true}
 use Rattle.number.specs.Questions.{accepted}
 use Rattle.number.proofs.Split.{split, never}
 use Rattle.note_rows.specs.NoteRows.{Lines, end, cut, line, before, lines_of, is_row, is_byte, is_end, add_row, measures, density}
 use Rattle.note_rows.specs.NoteRows.{row_densities, lines_no, text_no}
-use Rattle.note_rows.specs.Laws.{commas, known_lines, ends_in_last, WellFormed, NoteRowLaws}
+use Rattle.note_rows.specs.Laws.{commas, ends_in_last, NoteRowLaws}
 use Rattle.note_rows.proofs.Lines.{row-not-byte, the-byte}
 use Rattle.note_rows.proofs.First.{not-ended}
 use Rattle.note_rows.proofs.Found.{adds_one}
 
--- lines that pass after so many rows of their measure
+-- lines that pass behind so many rows of their measure
 data Passes : ℕ → Lines → Type 0 where
   row : {rows : ℕ} {l : List ℕ} {ls : Lines} → is_row l ≡ true → rows < 192 → Passes (suc rows) ls → Passes rows (line l ls)
   comma : {rows : ℕ} {ls : Lines} → Passes 0 ls → Passes rows (line (44 ∷ []) ls)
@@ -74,49 +74,6 @@ unfolding Fits
 fits-at rows [] f i = omega arith
 fits-at rows (m ∷ ms) f zero = omega (arith, f.0)
 fits-at rows (m ∷ ms) f (suc i) = fits-at 0 ms f.1 i
-
--- they are known, and end in ";"
-all_known : {rows : ℕ} {ls : Lines} → Passes rows ls → known_lines ls ≡ true
-unfolding is_row
-all_known (row r t p) = rw (r, all_known p)
-all_known (comma p) = all_known p
-all_known last = refl
-
-ends_last : {rows : ℕ} {ls : Lines} → Passes rows ls → ends_in_last ls ≡ true
-ends_last (row {l = l} r t p) = rw (row-not-byte 59 l r) (ends_last p)
-ends_last (comma p) = ends_last p
-ends_last last = refl
-
-formed : (text : List ℕ) → Passes 0 (lines_of text) → WellFormed text
-formed text p = record { lines = all_known p; last = ends_last p; rows = fits-at 0 (measures (lines_of text)) (all_fit p (omega arith)) }
-
--- the other way: such lines pass
-at-fits : (ms : List (List (List ℕ))) → ((i : ℕ) → length (get_or ms i []) ≤ 192) → Fits 0 ms
-unfolding Fits
-at-fits [] h = tt
-at-fits (m ∷ ms) h = (omega (arith, h 0), at-fits ms (λ i. h (suc i)))
-
-fits-less : (rows : ℕ) (l : List ℕ) (ms : List (List (List ℕ))) → Fits rows (add_row l ms) → (rows < 192) × Fits (suc rows) ms
-unfolding Fits
-fits-less rows l [] f = (omega (arith, f.0), tt)
-fits-less rows l (m ∷ ms) f = (omega (arith, f.0), (omega (arith, f.0), f.1))
-
-no-fault : (rows : ℕ) (ls : Lines) → known_lines ls ≡ true → ends_in_last ls ≡ true → Fits rows (measures ls) → lines_no rows ls ≡ 0
-unfolding Fits
-no-fault rows end k e f = never (cc)
-no-fault rows cut k e f = never (cc)
-no-fault rows (line l ls) k e f =
-    split (is_row l)
-    (λ r.
-    let g = fits-less rows l (measures ls) (rw (row-not-byte 59 l r, row-not-byte 44 l r) at f) in
-    rw (r, lt-ltb rows 192 g.0) (no-fault (suc rows) ls (rw r at k) (rw (row-not-byte 59 l r) at e) g.1))
-    (λ r. split (is_byte 44 l)
-    (λ c.
-    let is = the-byte 44 l c in
-    rw (r, c) (no-fault 0 ls (rw (r, c) at k) (rw is at e) (rw is at f).1))
-    (λ c. split (is_byte 59 l)
-    (λ s. rw (r, c, s, rw s at e))
-    (λ s. let h = rw (r, c, s) at k in never (cc))))
 
 -- a measure has no more notes than rows
 few-notes : (rows : List (List ℕ)) → density rows ≤ length rows
@@ -199,15 +156,11 @@ pub laws : NoteRowLaws
 unfolding text_no row_densities Same
 laws =
     record {
-      passes = λ text. (
-        λ h. formed text (passes 0 (lines_of text) h),
-        λ w. no-fault 0 (lines_of text) w.lines w.last (at-fits (measures (lines_of text)) w.rows),
-      );
       counted = λ text h. length-map (measures (lines_of text)) density ∙ one_more (passes 0 (lines_of text) h);
       bounded = λ text h i.
           let ms = measures (lines_of text) in
           let few = few-notes (get_or ms i []) in
-          (rw (get_or-map density ms i []) few, (formed text (passes 0 (lines_of text) h)).rows i);
+          (rw (get_or-map density ms i []) few, fits-at 0 ms (all_fit (passes 0 (lines_of text) h) (omega arith)) i);
       behind = λ text rest h n.
           let ls = lines_of text in
           let p = same (lines_of rest) (not-ended rest (some_bytes rest n)) ls h in

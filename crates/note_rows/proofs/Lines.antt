@@ -2,7 +2,7 @@
 -- Assumes nothing.
 use Prim.Native.Nat.{ℕ, ◌+◌, ◌-◌}
 use mathlib.Core.Path.{◌≡◌, refl, ap}
-use mathlib.Core.Bool.{true, false, and-eq-true_iff}
+use mathlib.Core.Bool.{Bool, true, false, ◌&&◌}
 use mathlib.Core.List.{List, [], ◌∷◌, ◌++◌}
 use native.Mathlib.Omega.{arith}
 use lib.Dec.{eqb}
@@ -51,18 +51,22 @@ is-line (b ∷ l) rest (h & hs) = rw (h, is-line l rest hs)
 row-byte : (b : ℕ) → one_of row_bytes b ≡ true → eqb b 10 ≡ false
 row-byte b h = split (eqb b 10) (λ e. let f = rw (eqb-true b 10 e) at h in never (cc)) (λ e. e)
 
+both : (a b : Bool) → a && b ≡ true → (a ≡ true) × (b ≡ true)
+both true b h = (refl, h)
+both false b h = never (cc)
+
 row-bytes : (l : List ℕ) → all_of row_bytes l ≡ true → All (λ b. eqb b 10) false l
 row-bytes [] h = none
-row-bytes (b ∷ l) h = let p = (and-eq-true_iff (one_of row_bytes b) (all_of row_bytes l)).0 h in row-byte b p.0 & row-bytes l p.1
+row-bytes (b ∷ l) h = let p = both (one_of row_bytes b) (all_of row_bytes l) h in row-byte b p.0 & row-bytes l p.1
 
 -- a row has four bytes, and none of them is 0A
 pub row-long : (l : List ℕ) → is_row l ≡ true → length l ≡ 4
 unfolding is_row
-row-long l h = eqb-true (length l) 4 ((and-eq-true_iff (eqb (length l) 4) (all_of row_bytes l)).0 h).0
+row-long l h = eqb-true (length l) 4 (both (eqb (length l) 4) (all_of row_bytes l) h).0
 
 pub row_open : (l : List ℕ) → is_row l ≡ true → All (λ b. eqb b 10) false l
 unfolding is_row
-row_open l h = row-bytes l ((and-eq-true_iff (eqb (length l) 4) (all_of row_bytes l)).0 h).1
+row_open l h = row-bytes l (both (eqb (length l) 4) (all_of row_bytes l) h).1
 
 -- it is no line of one byte
 pub row-not-byte : (b : ℕ) (l : List ℕ) → is_row l ≡ true → is_byte b l ≡ false

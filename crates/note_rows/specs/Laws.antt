@@ -1,8 +1,8 @@
 -- What a reader can expect of note rows besides their densities.
 -- Assumes nothing.
-use Rattle.std.specs.Prelude.{ℕ, suc, ◌≤◌, ◌≡◌, ◌↔◌, ◌≢◌, Bool, true, false, cond, ◌&&◌, ◌||◌, List, [], ◌++◌, length, get_or}
+use Rattle.std.specs.Prelude.{ℕ, suc, ◌≤◌, ◌≡◌, ◌≢◌, Bool, true, false, cond, List, [], ◌++◌, length, get_or}
 use Rattle.number.specs.Questions.{accepted}
-use Rattle.note_rows.specs.NoteRows.{Lines, end, cut, line, lines_of, is_row, is_comma, is_semicolon, is_end, measures, row_densities, text_no}
+use Rattle.note_rows.specs.NoteRows.{Lines, end, cut, line, lines_of, is_comma, is_semicolon, is_end, measures, row_densities, text_no}
 
 -- how many lines are ","
 abbrev pub commas : Lines → ℕ
@@ -10,27 +10,13 @@ commas end = 0
 commas cut = 0
 commas (line l ls) = cond (is_comma l) (suc (commas ls)) (commas ls)
 
--- every line is a row, "," or ";" and has its 0A
-abbrev pub known_lines : Lines → Bool
-known_lines end = true
-known_lines cut = false
-known_lines (line l ls) = (is_row l || is_comma l || is_semicolon l) && known_lines ls
-
--- the first line ";" is there, and nothing after it
+-- the first line ";" is there, and nothing behind it
 abbrev pub ends_in_last : Lines → Bool
 ends_in_last end = false
 ends_in_last cut = false
 ends_in_last (line l ls) = cond (is_semicolon l) (is_end ls) (ends_in_last ls)
 
--- a text as the paper has it: every line is one of the three, the first ";" is the last line, and a measure has 0 to 192 rows
-pub record WellFormed (text : List ℕ) : Type 0 where
-  pub lines : known_lines (lines_of text) ≡ true
-  pub last : ends_in_last (lines_of text) ≡ true
-  pub rows : (i : ℕ) → length (get_or (measures (lines_of text)) i []) ≤ 192
-
 pub record NoteRowLaws : Type 0 where
-  -- exactly these texts pass 14, 15 and 16
-  pub passes : (text : List ℕ) → (text_no text ≡ 0) ↔ WellFormed text
   -- a text whose lines have passed has one measure more than it has lines ","
   pub counted : (text : List ℕ) → text_no text ≡ 0 → length (row_densities text) ≡ suc (commas (lines_of text))
   -- each of its densities is at most the number of the measure's rows, which is at most 192

@@ -19,12 +19,9 @@ use Rattle.rules.specs.declared.StreamBreakdownLevel.{StreamBreakdownLevel}
 use Rattle.rules.specs.declared.StreamBreakdownLevel.TheVariants as Level
 use Rattle.rules.proofs.Demand.{same-classes}
 use Rattle.chart_texts.proofs.Same.{same-breakdown}
-use Rattle.acceptance.specs.Questions.{Refuses}
-use Rattle.acceptance.specs.Refusals.{NoText}
 use Rattle.acceptance.specs.SecondHalf.{TextWritten, single}
-use Rattle.acceptance.proofs.Refusals.{refused-text}
 use Rattle.puvolamie_c.specs.Numbers.{Meant, kind, none, mode_number, mode_kind, level_kind, OneKind}
-use Rattle.puvolamie_c.specs.Demand.{kind_questions, SameAnswers, Demand}
+use Rattle.puvolamie_c.specs.Demand.{SameAnswers, Demand}
 use Rattle.puvolamie_c.proofs.Numbers.{mode-none, level-none}
 
 -- charts of equal classes, the same number and equal lent bytes
@@ -43,10 +40,6 @@ same-answers a b s =
     }
 
 module _ (m old new : List ℕ) (r : Written) where
-  kind-refuses : (x : Meant) → OneKind x m old new r → Refuses (kind_questions x m old) r.refused (NoText old new r)
-  kind-refuses (kind k) = refused-text (kind_questions (kind k) m old) tt _ old new r
-  kind-refuses none = refused-text (kind_questions none m old) tt _ old new r
-
   no_kind : {x : Meant} → x ≡ none → OneKind x m old new r → (r ≡ record { refused = 100; length = 0 }) × (new ≡ old)
   no_kind e p = let q : OneKind none m old new r = rw e at p in (q.answer, q.bytes)
 
@@ -74,9 +67,7 @@ pub demand : Demand
 demand =
     record {
       refused = record {
-        generate_breakdown = λ n m old new r. kind-refuses m old new r (mode_kind n);
         mode = λ n h m old new r. no_kind m old new r (mode-none n h);
-        stream_breakdown = λ n m old new r. kind-refuses m old new r (level_kind n);
         level = λ n h m old new r. no_kind m old new r (level-none n h);
       };
       first_half = same-answers;

@@ -2,38 +2,21 @@
 -- mode or a level by its number, and pv_active_range, which tells places. Every other call keeps the promise of the call that it hands on,
 -- of which acceptance/specs speaks.
 -- Assumes nothing.
-use Rattle.std.specs.Prelude.{ℕ, ◌<◌, ◌≡◌, ◌⊎◌, true, false, List, [], ◌∷◌, take}
-use Rattle.number.specs.Questions.{Question, question, room_for}
+use Rattle.std.specs.Prelude.{ℕ, ◌<◌, ◌≡◌, ◌⊎◌, List, take}
 use Rattle.number.specs.declared.Written.{Written}
-use Rattle.rules.specs.Chart.{in_domain}
 use Rattle.rules.specs.Calls.{level_number}
 use Rattle.rules.specs.Demand.{SameClasses}
 use Rattle.rules.specs.declared.Kind.TheVariants.{Sn as sn, Standard as standard}
-use Rattle.rules.specs.Texts.{text}
 use Rattle.rules.specs.declared.BreakdownMode.{BreakdownMode}
 use Rattle.rules.specs.declared.StreamBreakdownLevel.{StreamBreakdownLevel}
-use Rattle.acceptance.specs.Questions.{Refuses}
-use Rattle.acceptance.specs.Refusals.{NoText}
 use Rattle.acceptance.specs.SecondHalf.{TextWritten}
-use Rattle.puvolamie_c.specs.Numbers.{Meant, kind, none, mode_number, mode_kind, level_kind, OneKind}
+use Rattle.puvolamie_c.specs.Numbers.{mode_number, mode_kind, level_kind, OneKind}
 use Rattle.puvolamie_c.specs.Parts.{active_range}
 
--- the questions put to such a call, by what the number stands for: a mode, or a level? 100. Then those of its text, 1 and 4
-abbrev pub kind_questions : Meant → List ℕ → List ℕ → List Question
-kind_questions (kind k) m old = question 100 true ∷ in_domain m ∷ room_for (text k m) old ∷ []
-kind_questions none m old = question 100 false ∷ []
-
--- Demand 1: the first no "by its number and with every lent slice untouched", and with no no "all the rest" accepted; a number that stands for no
--- mode, or for no level, is refused by 100
+-- Demand 1: a number that stands for no mode, or for no level, is refused by 100, "with every lent slice untouched"
 pub record RefusedNumbers : Type 0 where
-  -- pv_generate_breakdown
-  pub generate_breakdown : (n : ℕ) (m old new : List ℕ) (r : Written) → OneKind (mode_kind n) m old new r
-      → Refuses (kind_questions (mode_kind n) m old) r.refused (NoText old new r)
   pub mode : (n : ℕ) → 2 < n → (m old new : List ℕ) (r : Written) → OneKind (mode_kind n) m old new r
       → (r ≡ record { refused = 100; length = 0 }) × (new ≡ old)
-  -- pv_stream_breakdown
-  pub stream_breakdown : (n : ℕ) (m old new : List ℕ) (r : Written) → OneKind (level_kind n) m old new r
-      → Refuses (kind_questions (level_kind n) m old) r.refused (NoText old new r)
   pub level : (n : ℕ) → (n ≡ 0) ⊎ (4 < n) → (m old new : List ℕ) (r : Written) → OneKind (level_kind n) m old new r
       → (r ≡ record { refused = 100; length = 0 }) × (new ≡ old)
 

@@ -1,22 +1,22 @@
--- The name of an accepted record: where it stands, how long it is, and of which bytes.
+-- The name of an accepted record: where it stands, and how long it is.
 -- Assumes nothing.
-use Prim.Native.Nat.{ℕ, ◌+◌, ◌*◌, ◌≤◌}
-use mathlib.Core.Path.{◌≡◌, refl}
-use mathlib.Core.Bool.{true, false, ◌&&◌, and-eq-true_iff}
+use Prim.Native.Nat.{ℕ, zero, suc, ◌+◌, ◌*◌, ◌≤◌}
+use mathlib.Core.Path.{◌≡◌, refl, sym}
+use mathlib.Core.Bool.{true, false, true≢false}
 use mathlib.Core.List.{List, [], ◌∷◌}
 use native.Mathlib.Omega.{arith}
 use lib.Dec.{leb, eqb}
 use lib.ListN.{length, take, drop}
 use lib.Seq.{length-take-le}
 use borrow.Author.Tests.{leb-true}
+use Rattle.number.specs.Questions.{accepted}
 use Rattle.number.proofs.Split.{split}
-use Rattle.number.proofs.Questions.{both_yes}
+use Rattle.record.specs.Record.{Fields, end, head_cut, payload_cut, whole, fields_of, is_name, field_no, fields_no, densities, name_of, record_no}
 use Rattle.rules.specs.Chart.{densities_no}
-use Rattle.record.specs.Record.{Fields, end, head_cut, payload_cut, whole, fields_of, densities, name_of, printable, is_name, field_no, fields_no, record_no}
 use Rattle.record.proofs.Fields.{fields-few, fields-head, at-end}
 use Rattle.record.proofs.Sizes.{Sized, sized}
 
--- the name is what stands after the first three bytes
+-- the name is what stands behind the first three bytes
 pub name-at : (bytes : List ℕ) → take (length (name_of (fields_of bytes))) (drop 3 bytes) ≡ name_of (fields_of bytes)
 name-at [] = rw (at-end [] 0 refl)
 name-at (t ∷ []) = rw (fields-few (t ∷ []) (omega arith) (omega arith))
@@ -30,32 +30,37 @@ name-at (t ∷ u ∷ v ∷ bytes) =
     (λ other. rw (fields-head t u v bytes, e, other)))
     (λ e. rw (fields-head t u v bytes, e))
 
--- a first field that answers 0 is of tag 01 and holds a name
-first_field : (t : ℕ) (p : List ℕ) → field_no true t p ≡ 0 → (eqb t 1 ≡ true) × (is_name p ≡ true)
+first-yes : (a k : ℕ) → accepted k a k ≡ 0 → k ≡ 0
+first-yes a zero h = refl
+first-yes a (suc k) h = absurd (omega (arith, h))
+
+short-name : (p : List ℕ) → is_name p ≡ true → length p ≤ 64
+short-name p h =
+    split (leb (length p) 64)
+    (λ e. leb-true (length p) 64 e)
+    (λ e. split (leb 1 (length p)) (λ f. absurd (true≢false (sym (rw (f, e) at h)))) (λ f. absurd (true≢false (sym (rw f at h)))))
+
+short-field : (t : ℕ) (p : List ℕ) → field_no true t p ≡ 0 → eqb t 1 ≡ true → length p ≤ 64
 unfolding field_no
-first_field t p h =
-    split (eqb t 1)
-    (λ e. split (is_name p) (λ f. (e, f)) (λ f. absurd (omega (arith, rw (e, f) at h))))
-    (λ e. split (eqb t 2) (λ f. absurd (omega (arith, rw (e, f) at h))) (λ f. absurd (omega (arith, rw (e, f) at h))))
+short-field t p h one = split (is_name p) (λ e. short-name p e) (λ e. absurd (omega (arith, rw (one, e) at h)))
 
--- the name of an accepted record of m bytes
-pub record Named (m : ℕ) (name : List ℕ) : Type 0 where
-  pub within : 3 + length name ≤ m
-  pub short : length name ≤ 64
-  pub bytes : printable name ≡ true
+-- an accepted record's name of n bytes, in a record of m bytes
+pub record Named (m n : ℕ) : Type 0 where
+  pub within : 3 + n ≤ m
+  pub short : n ≤ 64
 
-named_in : (fs : Fields) (m : ℕ) → Sized fs m → fields_no true fs ≡ 0 → Named m (name_of fs)
+named_in : (fs : Fields) (m : ℕ) → Sized fs m → fields_no true fs ≡ 0 → Named m (length (name_of fs))
 named_in end m g h = absurd (omega (arith, h))
 named_in head_cut m g h = absurd (omega (arith, h))
 named_in payload_cut m g h = absurd (omega (arith, h))
 named_in (whole t p fs) m g h =
-    let f = first_field t p (both_yes (field_no true t p) (fields_no false fs) h).0 in
-    let name = (and-eq-true_iff (leb 1 (length p) && leb (length p) 64) (printable p)).0 f.1 in
-    let long = (and-eq-true_iff (leb 1 (length p)) (leb (length p) 64)).0 name.0 in
-    rw f.0 (record { within = g.0; short = leb-true (length p) 64 long.1; bytes = name.1 })
+    let yes = first-yes (fields_no false fs) (field_no true t p) h in
+    split (eqb t 1)
+    (λ e. rw e (record { within = g.0; short = short-field t p yes e }))
+    (λ e. rw e (record { within = omega (arith, g.0); short = omega arith }))
 
-pub named : (bytes old : List ℕ) → record_no bytes old ≡ 0 → Named (length bytes) (name_of (fields_of bytes))
+pub named : (bytes old : List ℕ) → record_no bytes old ≡ 0 → Named (length bytes) (length (name_of (fields_of bytes)))
 unfolding record_no
 named bytes old h =
     let fs = fields_of bytes in
-    named_in fs (length bytes) (sized bytes) (both_yes (fields_no true fs) (densities_no (densities fs) old) h).0
+    named_in fs (length bytes) (sized bytes) (first-yes (densities_no (densities fs) old) (fields_no true fs) h)

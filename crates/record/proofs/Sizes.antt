@@ -6,12 +6,12 @@ use mathlib.Core.Bool.{cond}
 use mathlib.Core.List.{List, [], ◌∷◌}
 use native.Mathlib.Nat.{sub-zero}
 use native.Mathlib.Omega.{arith}
-use lib.Dec.{leb}
-use lib.ListN.{length, drop, length-drop}
+use lib.Dec.{leb, eqb}
+use lib.ListN.{length, drop, length-append, length-drop}
 use lib.Seq.{length-take-le}
 use borrow.Author.Tests.{le-leb, leb-true}
 use Rattle.number.proofs.Split.{split}
-use Rattle.record.specs.Record.{Fields, end, head_cut, payload_cut, whole, fields_in, fields_of}
+use Rattle.record.specs.Record.{Fields, end, head_cut, payload_cut, whole, fields_in, fields_of, densities}
 use Rattle.record.specs.Alike.{lengths, ending}
 
 -- m bytes that hold no whole field
@@ -62,3 +62,17 @@ ends-in (whole t p fs) m h =
 -- which cut a record ends in, if any, is seen by its length and those of its whole fields alone
 pub same-ending : (a b : List ℕ) → length a ≡ length b → lengths (fields_of a) ≡ lengths (fields_of b) → ending (fields_of a) ≡ ending (fields_of b)
 same-ending a b l ls = rw (ends-in (fields_of a) (length a) (sized a), ends-in (fields_of b) (length b) (sized b), l, ls)
+
+-- a record has more bytes than densities
+few : (fs : Fields) (m : ℕ) → Sized fs m → length (densities fs) ≤ m
+few end m h = omega arith
+few head_cut m h = omega arith
+few payload_cut m h = omega arith
+few (whole t p fs) m h =
+    let rest = few fs (m - (3 + length p)) h.1 in
+    split (eqb t 2)
+    (λ e. rw (e, length-append p (densities fs)) (omega (arith, rest, h.0)))
+    (λ e. rw e (omega (arith, rest, h.0)))
+
+pub few-densities : (bytes : List ℕ) → length (densities (fields_of bytes)) ≤ length bytes
+few-densities bytes = few (fields_of bytes) (length bytes) (sized bytes)

@@ -1,7 +1,7 @@
 -- Chart record: its fields, and the questions put to it.
 -- Assumes nothing.
 use Rattle.std.specs.Prelude.{ℕ, zero, suc, ◌+◌, ◌*◌, Bool, true, false, cond, not, ◌&&◌, ◌||◌, List, [], ◌∷◌, ◌++◌, leb, eqb, length, take, drop}
-use Rattle.number.specs.Questions.{Question, question, first_no, accepted}
+use Rattle.number.specs.Questions.{question, first_no, accepted}
 use Rattle.rules.specs.Chart.{densities_no}
 
 -- the fields of a record: nothing left, a field with fewer than three head bytes, one whose payload is shorter than its length says, or a whole
@@ -55,13 +55,10 @@ abbrev pub is_name : List ℕ → Bool
 is_name payload = leb 1 (length payload) && leb (length payload) 64 && printable payload
 
 -- a whole field's questions. Tag 01 or 02? 9. A name as first field and nowhere else? 10. A name of 1 to 64 bytes from 20 to 7E? 11
-abbrev pub field_questions : Bool → ℕ → List ℕ → List Question
-field_questions first tag payload =
-    let name = eqb tag 1 in
-    question 9 (name || eqb tag 2) ∷ question 10 (cond first name (not name)) ∷ question 11 (cond name (is_name payload) true) ∷ []
-
 unfoldable pub field_no : Bool → ℕ → List ℕ → ℕ
-field_no first tag payload = first_no (field_questions first tag payload)
+field_no first tag payload =
+    let name = eqb tag 1 in
+    first_no (question 9 (name || eqb tag 2) ∷ question 10 (cond first name (not name)) ∷ question 11 (cond name (is_name payload) true) ∷ [])
 
 -- field by field. Three head bytes present? 8. The whole payload present? 17. Then the questions of a whole field. An empty file answers no to 10
 abbrev pub fields_no : Bool → Fields → ℕ

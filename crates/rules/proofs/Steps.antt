@@ -2,17 +2,18 @@
 -- that what is written, with `join_from k t` (or `absorb` of it) of the tokens not yet read, is the whole list.
 -- Assumes nothing.
 use Prim.Native.Nat.{ℕ, zero, suc, ◌+◌, ◌≤◌, ◌<◌}
-use mathlib.Core.Path.{◌≡◌, refl, ap}
+use mathlib.Core.Path.{◌≡◌, refl, sym, ap}
 use mathlib.Core.Bool.{Bool, true, false, ◌&&◌}
 use mathlib.Core.Logic.{◌≢◌}
-use mathlib.Core.List.{List, [], ◌∷◌, map}
+use mathlib.Core.List.{List, [], ◌∷◌, ◌++◌, map, append_assoc}
 use lib.Dec.{eqb}
 use lib.ListN.{length, take, drop}
 use native.Mathlib.Nat.{suc-ne-zero}
 use native.Mathlib.Omega.{arith}
 use borrow.Author.Tests.{eq-eqb, ne_eqb, eqb-true, lt-ltb, le-ltb, le-leb, lt-leb}
 use Rattle.rules.specs.Chart.{class_of, classes, lead_in, keep, to_last, active, active_part, Token, token, class, len, runs_from, tokens}
-use Rattle.rules.specs.Reduced.{joins, join_from, short, absorb, drop_ones}
+use Rattle.rules.specs.Reduced.{Item, joins, join_from, short, absorb, drop_ones}
+use Rattle.rules.specs.Texts.{strung}
 use Rattle.number.proofs.Split.{split}
 
 -- ---- one measure's class
@@ -155,6 +156,12 @@ unfolding tokens active
 tokens-closed t [] h = h
 tokens-closed t (zero ∷ cs) h = tokens-closed t cs h
 tokens-closed t (suc c ∷ cs) h = runs_closed t (suc c) 1 (to_last cs) (last-ends c cs)
+
+-- ---- a loop that writes items
+
+pub strung-append : (f : Item → List ℕ) (is js : List Item) → strung f (is ++ js) ≡ strung f is ++ strung f js
+strung-append f [] js = refl
+strung-append f (i ∷ is) js = rw (strung-append f is js) (sym (append_assoc (f i) (strung f is) (strung f js)))
 
 -- ---- the active part of the caller's own slice has the active part's classes
 

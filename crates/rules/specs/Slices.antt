@@ -18,3 +18,8 @@ total (token c n s ∷ ts) = n + total ts
 abbrev pub leading : ℕ → List ℕ → ℕ
 leading c [] = zero
 leading c (d ∷ cs) = cond (eqb c d) (suc (leading c cs)) zero
+
+-- the n numbers from i on
+abbrev pub up_from : ℕ → ℕ → List ℕ
+up_from i zero = []
+up_from i (suc n) = i ∷ up_from (suc i) n

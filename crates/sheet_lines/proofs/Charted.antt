@@ -1,6 +1,6 @@
 -- From the answers of the pass and of Total to what is printed for a chart. Nothing here speaks of code.
 -- Assumes nothing.
-use Prim.Native.Nat.{ℕ, suc, ◌+◌, ◌≤◌}
+use Prim.Native.Nat.{ℕ, zero, suc, ◌+◌, ◌≤◌}
 use mathlib.Core.Path.{◌≡◌, refl, sym, ap, ◌∙◌}
 use mathlib.Core.Bool.{Bool, true, false, cond, ◌&&◌}
 use mathlib.Core.List.{List, [], ◌∷◌, ◌++◌, append_assoc, append-nil}
@@ -9,9 +9,8 @@ use lib.Dec.{leb}
 use lib.ListN.{length, take, drop, length-append, length-replicate}
 use lib.Seq.{take_at, drop_at}
 use borrow.Author.Tests.{leb-true}
-use Rattle.number.specs.Questions.{filled}
+use Rattle.number.specs.Questions.{accepted, filled}
 use Rattle.number.specs.declared.Written.{Written}
-use Rattle.number.proofs.Questions.{refused-is, text-accepted}
 use Rattle.rules.specs.Chart.{classes, tokens, counts}
 use Rattle.rules.specs.declared.Kind.{Kind}
 use Rattle.rules.specs.declared.Kind.TheVariants.{Standard as standard}
@@ -22,17 +21,25 @@ use Rattle.chart_texts.specs.Promises.{Breakdown}
 use Rattle.stream_outputs.specs.Promises.{pass_no, Outputs}
 use Rattle.stream_outputs.specs.declared.StreamOutputs.{StreamOutputs}
 use Rattle.counts_line.specs.CountsLine.{line, counts_line}
-use Rattle.counts_line.proofs.Bound.{line-length, counts-short}
-use Rattle.sheet_lines.specs.Sheet.{places, text_bytes, total_bytes, total_no, texts_no, sheet_kinds, text_lines, chart_lines, refusal_line}
-use Rattle.sheet_lines.specs.Steps.{AtStart, NameRoom, LinesRoom, sum, cut_lines, all_lines, chart_bytes}
+use Rattle.counts_line.proofs.Bound.{counts-short}
+use Rattle.sheet_lines.specs.Sheet.{places, text_bytes, total_bytes, first_refusal, total_no, sheet_kinds, text_lines}
+use Rattle.sheet_lines.specs.Steps.{AtStart, NameRoom, LinesRoom, refusal_line, sum, cut_lines, all_lines, texts_no, chart_bytes}
 use Rattle.sheet_lines.proofs.Bound.{sum-lengths, lines-length}
 
 -- ---- refusals
 
+pub first-no : (n : ℕ) (ns : List ℕ) → (n ≡ 0 → ⊥) → first_refusal (n ∷ ns) ≡ n
+first-no zero ns h = absurd (h refl)
+first-no (suc n) ns h = refl
+
+pub refused-by : {n : ℕ} (xs : List ℕ) → (n ≡ 0 → ⊥) → accepted n xs (refusal_line n) ≡ refusal_line n
+refused-by {n = zero} xs h = absurd (h refl)
+refused-by {n = suc n} xs h = refl
+
 module _ (name m : List ℕ) where
   chart-refused : (n : ℕ) → (n ≡ 0 → ⊥) → texts_no m ≡ n → chart_bytes name m ≡ refusal_line n
   unfolding chart_bytes
-  chart-refused n h e = rw e (refused-is n _ _ h)
+  chart-refused n h e = rw e (refused-by _ h)
 
   module _ {cs ns texts : List ℕ} {r : StreamOutputs} (p : Outputs m places cs places ns text_bytes texts r) where
     pass-no : pass_no m places places text_bytes ≡ r.refused
@@ -40,7 +47,7 @@ module _ (name m : List ℕ) where
 
     pub by-pass : (r.refused ≡ 0 → ⊥) → chart_bytes name m ≡ refusal_line r.refused
     unfolding texts_no
-    by-pass h = chart-refused r.refused h (rw pass-no (refused-is r.refused _ _ h))
+    by-pass h = chart-refused r.refused h (rw pass-no (first-no r.refused (total_no m total_bytes ∷ []) h))
 
     module _ (yes : r.refused ≡ 0) {total : List ℕ} {w : Written} (q : Breakdown (standard Level.Total) m total_bytes total w) where
       total-no : total_no m total_bytes ≡ w.refused
@@ -48,22 +55,22 @@ module _ (name m : List ℕ) where
 
       pub by_total : (w.refused ≡ 0 → ⊥) → chart_bytes name m ≡ refusal_line w.refused
       unfolding texts_no
-      by_total h = chart-refused w.refused h (rw (pass-no, yes, total-no) (refused-is w.refused _ _ h))
+      by_total h = chart-refused w.refused h (rw (pass-no, yes, total-no) (first-no w.refused [] h))
 
 -- ---- texts end to end, cut into lines
 
-cut-from : (ks : List Kind) (m before rest : List ℕ) (start : ℕ) → length before ≡ start
+cut-behind : (ks : List Kind) (m before rest : List ℕ) (start : ℕ) → length before ≡ start
     → cut_lines (before ++ (end_to_end ks m ++ rest)) start (lengths_of ks m) ≡ text_lines ks m
-cut-from [] m before rest start e = refl
-cut-from (k ∷ ks) m before rest start e =
+cut-behind [] m before rest start e = refl
+cut-behind (k ∷ ks) m before rest start e =
     let t = text k m in
     let more = end_to_end ks m ++ rest in
-    let next = cut-from ks m (before ++ t) rest (start + length t) (length-append before t ∙ rw e) in
+    let next = cut-behind ks m (before ++ t) rest (start + length t) (length-append before t ∙ rw e) in
     rw (append_assoc t (end_to_end ks m) rest, drop_at before (t ++ more) start e, take_at t more (length t) refl)
     (ap (λ (l : List ℕ). line t ++ l) (rw append_assoc at next))
 
 cut_all : (ks : List Kind) (m rest : List ℕ) → cut_lines (end_to_end ks m ++ rest) 0 (lengths_of ks m) ≡ text_lines ks m
-cut_all ks m rest = cut-from ks m [] rest 0 refl
+cut_all ks m rest = cut-behind ks m [] rest 0 refl
 
 lines-append : (js ks : List Kind) (m : List ℕ) → text_lines (js ++ ks) m ≡ text_lines js m ++ text_lines ks m
 lines-append [] ks m = refl
@@ -100,20 +107,24 @@ module _ (m cs ns old : List ℕ) (k : ℕ) (long : length old ≡ k) where
 
 -- the lines from counts, texts and Total that are right
 module _ (name m : List ℕ) where
+  abbrev lines : List ℕ
+  lines = line name ++ (line (counts_line (counts (classes m))) ++ (text_lines pass_kinds m ++ line (text (standard Level.Total) m)))
+
   right-lines : (rest : List ℕ) {c : StreamCounts} {texts ns total : List ℕ}
       → c ≡ counts (classes m) → texts ≡ end_to_end pass_kinds m ++ rest → ns ≡ lengths_of pass_kinds m
-      → total ≡ text (standard Level.Total) m → all_lines name c texts ns total ≡ chart_lines name m
-  right-lines rest c t n l = rw (c, t, n, l, cut_all pass_kinds m rest, seven-lines m)
+      → total ≡ text (standard Level.Total) m → all_lines name c texts ns total ≡ lines
+  right-lines rest c t n l = rw (c, t, n, l, cut_all pass_kinds m rest)
 
   lines-short : length name ≤ 64 → length m ≤ 1048576 → length (end_to_end pass_kinds m) ≤ 65536 → length (text (standard Level.Total) m) ≤ 32
-      → length (chart_lines name m) ≤ 66048
+      → length lines ≤ 66048
   lines-short a b d e =
       let total = text (standard Level.Total) m in
+      let texts = text_lines pass_kinds m in
       let counted = line (counts_line (counts (classes m))) in
-      let texts = ap {B = ℕ} length (seven-lines m) ∙ length-append (text_lines pass_kinds m) (line total) in
-      let parts = length-append (line name) (counted ++ text_lines sheet_kinds m) in
-      let more = length-append counted (text_lines sheet_kinds m) in
-      omega (arith, parts, more, texts, line-length name, counts-short m b, lines-length m pass_kinds, line-length total)
+      let first = length-append (line name) (counted ++ (texts ++ line total)) in
+      let second = length-append counted (texts ++ line total) in
+      let third = length-append texts (line total) in
+      omega (arith, first, length-append name (10 ∷ []), second, counts-short m b, third, lines-length m pass_kinds, length-append total (10 ∷ []))
 
 module _ {m cs ns texts : List ℕ} {r : StreamOutputs} (p : Outputs m places cs places ns text_bytes texts r) (yes : r.refused ≡ 0) where
   passed : pass_no m places places text_bytes ≡ 0
@@ -135,32 +146,38 @@ module _ {m cs ns texts : List ℕ} {r : StreamOutputs} (p : Outputs m places cs
     abbrev shown : List ℕ
     shown = text (standard Level.Total) m
 
-    totalled : (total_no m total_bytes ≡ 0) × (w.length ≡ length shown) × (total ≡ filled total_bytes shown)
-    totalled = text-accepted (total_no m total_bytes) shown total_bytes total w q yes₂
+    totalled : total_no m total_bytes ≡ 0
+    totalled = total-no [] m p yes q ∙ yes₂
+
+    total-length : w.length ≡ length shown
+    total-length = ap (λ (o : Written). o.length) (rw totalled at q.answer)
+
+    total-are : total ≡ filled total_bytes shown
+    total-are = rw totalled at q.bytes
 
     pub total-within : w.length ≤ length total
-    total-within = omega (arith, totalled.1, ap {B = ℕ} length totalled.2, length-append shown (drop (length shown) total_bytes))
+    total-within = omega (arith, total-length, ap {B = ℕ} length total-are, length-append shown (drop (length shown) total_bytes))
 
     total-is : take w.length total ≡ shown
-    total-is = rw totalled.2 (take_at shown _ w.length (sym totalled.1))
+    total-is = rw total-are (take_at shown _ w.length (sym total-length))
 
     module _ (name : List ℕ) where
-      lines_are : all_lines name r.counts texts r.lengths (take w.length total) ≡ chart_lines name m
+      lines_are : all_lines name r.counts texts r.lengths (take w.length total) ≡ lines name m
       lines_are = right-lines name m _ (ap (λ (o : StreamOutputs). o.counts) r-is) texts-are lengths-are total-is
 
       pub lines-room : {out : List ℕ} → NameRoom name out → LinesRoom out name r.counts texts r.lengths (take w.length total)
       lines-room h =
           let all = end_to_end pass_kinds m in
           let room = pass-room m places places text_bytes 65536 (length-replicate {A = ℕ} 65536 0) passed in
-          let short = lines-short name m h.short room.0 room.1 (total-room m [] [] total_bytes 32 (length-replicate {A = ℕ} 32 0) totalled.0) in
+          let short = lines-short name m h.short room.0 room.1 (total-room m [] [] total_bytes 32 (length-replicate {A = ℕ} 32 0) totalled) in
           record {
             within = omega (arith, ap sum lengths-are, sum-lengths m pass_kinds, ap {B = ℕ} length texts-are, length-append all (drop (length all) text_bytes));
             room = record { fits = omega (arith, ap {B = ℕ} length lines_are, short, h.most) };
           }
 
-      chart-lines : chart_bytes name m ≡ chart_lines name m
+      chart-lines : chart_bytes name m ≡ lines name m
       unfolding chart_bytes texts_no
-      chart-lines = rw (passed, totalled.0)
+      chart-lines = rw (passed, totalled) (ap (λ (l : List ℕ). line name ++ (line (counts_line (counts (classes m))) ++ l)) (seven-lines m))
 
       pub printed : {out new : List ℕ} {s : ℕ}
           → AtStart out new (all_lines name r.counts texts r.lengths (take w.length total)) s → AtStart out new (chart_bytes name m) s

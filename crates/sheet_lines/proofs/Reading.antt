@@ -1,21 +1,22 @@
 -- From the record that was read to what `sheet` prints. Nothing here speaks of code.
 -- Assumes nothing.
-use Prim.Native.Nat.{ℕ, zero, suc, ◌+◌, ◌-◌, ◌≤◌, ◌<◌}
-use mathlib.Core.Path.{◌≡◌, refl, sym, ap, ◌∙◌}
+use Prim.Native.Nat.{ℕ, ◌+◌, ◌-◌, ◌≤◌, ◌<◌}
+use mathlib.Core.Path.{◌≡◌, sym, ap, ◌∙◌}
 use mathlib.Core.List.{List, [], ◌∷◌}
 use native.Mathlib.Omega.{arith}
 use lib.ListN.{length, take, drop, replicate, length-append}
 use lib.Seq.{take_at}
 use borrow.Author.Tests.{le-leb, lt-leb}
 use Rattle.number.specs.Questions.{filled}
-use Rattle.number.proofs.Questions.{refused-is}
 use Rattle.record.specs.Record.{fields_of, name_of, record_no}
 use Rattle.record.specs.Promises.{ReadRecord}
 use Rattle.record.specs.declared.RecordAnswer.{RecordAnswer}
 use Rattle.record.proofs.Name.{name-at, named}
-use Rattle.sheet_lines.specs.Sheet.{places, first_refusal, chart_of, texts_no, sheet_no, refusal_line, sheet_bytes, Printed}
+use Rattle.stream_outputs.specs.Promises.{pass_no}
+use Rattle.sheet_lines.specs.Sheet.{places, text_bytes, total_bytes, total_no, chart_of, sheet_no, sheet_bytes, Printed}
 use Rattle.sheet_lines.specs.declared.Sheet.{Sheet}
-use Rattle.sheet_lines.specs.Steps.{AtStart, Roomy, NameRoom, chart_bytes}
+use Rattle.sheet_lines.specs.Steps.{AtStart, Roomy, NameRoom, refusal_line, texts_no, chart_bytes}
+use Rattle.sheet_lines.proofs.Charted.{first-no, refused-by}
 
 -- question 13
 pub too_long : (input : List ℕ) → 16384 < length input → sheet_bytes input ≡ refusal_line 13
@@ -29,11 +30,13 @@ module _ {input new : List ℕ} {r : RecordAnswer} (p : ReadRecord input places 
   module _ (short : length input ≤ 16384) (h : r.refused ≡ 0 → ⊥) where
     sheet-no : sheet_no input ≡ r.refused
     unfolding sheet_no
-    sheet-no = rw (le-leb (length input) 16384 short, record-no) (refused-is r.refused _ _ h)
+    sheet-no =
+        let m = chart_of input in
+        rw (le-leb (length input) 16384 short, record-no) (first-no r.refused (pass_no m places places text_bytes ∷ total_no m total_bytes ∷ []) h)
 
     pub by-record : sheet_bytes input ≡ refusal_line r.refused
     unfolding sheet_bytes
-    by-record = rw sheet-no (refused-is r.refused _ _ h)
+    by-record = rw sheet-no (refused-by _ h)
 
   module _ (yes : r.refused ≡ 0) where
     abbrev name : List ℕ
@@ -78,12 +81,8 @@ module _ {input new : List ℕ} {r : RecordAnswer} (p : ReadRecord input places 
     chart-is = rw new_is (take_at (chart_of input) _ r.measures (sym measures-are))
 
     sheet-chart : length input ≤ 16384 → sheet_bytes input ≡ chart_bytes name (chart_of input)
-    unfolding sheet_bytes sheet_no chart_bytes
-    sheet-chart short = rw (le-leb (length input) 16384 short, read, alone (texts_no (chart_of input)))
-      where
-        alone : (n : ℕ) → first_refusal (n ∷ []) ≡ n
-        alone zero = refl
-        alone (suc n) = refl
+    unfolding sheet_bytes sheet_no chart_bytes texts_no
+    sheet-chart short = rw (le-leb (length input) 16384 short, read)
 
     pub sheet-printed : length input ≤ 16384 → {out out' : List ℕ} {s : ℕ}
         → AtStart out out' (chart_bytes name_read (take r.measures new)) s → AtStart out out' (sheet_bytes input) s

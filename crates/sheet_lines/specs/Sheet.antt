@@ -1,6 +1,6 @@
 -- What the program `sheet` prints for the bytes that it is given.
 -- Assumes nothing.
-use Rattle.std.specs.Prelude.{ℕ, ◌≡◌, List, [], ◌∷◌, ◌++◌, leb, length, replicate}
+use Rattle.std.specs.Prelude.{ℕ, zero, suc, ◌≡◌, List, [], ◌∷◌, ◌++◌, leb, length, replicate}
 use Rattle.number.specs.Digits.{digits}
 use Rattle.number.specs.Questions.{Question, question, first_no, accepted, filled, room_for}
 use Rattle.rules.specs.Bytes.{bytes}
@@ -31,7 +31,8 @@ total_bytes = replicate 32 0
 -- the first number that is not 0
 abbrev pub first_refusal : List ℕ → ℕ
 first_refusal [] = 0
-first_refusal (n ∷ ns) = accepted n (first_refusal ns) n
+first_refusal (zero ∷ ns) = first_refusal ns
+first_refusal (suc n ∷ ns) = suc n
 
 -- the chart of a record: the densities in its whole fields
 abbrev pub chart_of : List ℕ → List ℕ
@@ -41,13 +42,16 @@ chart_of input = densities (fields_of input)
 abbrev pub total_no : List ℕ → List ℕ → ℕ
 total_no m old = first_no (in_domain m ∷ room_for (text (standard Level.Total) m) old ∷ [])
 
--- the number of the first no of the pass and of Total
-unfoldable pub texts_no : List ℕ → ℕ
-texts_no m = first_refusal (pass_no m places places text_bytes ∷ total_no m total_bytes ∷ [])
-
--- the number of the first no: of the program, of the record, of its texts
+-- the number of the first no: of the program, of the record, of the pass, of Total
 unfoldable pub sheet_no : List ℕ → ℕ
-sheet_no input = first_refusal (first_no (input_fits input ∷ []) ∷ record_no input places ∷ texts_no (chart_of input) ∷ [])
+sheet_no input =
+    let m = chart_of input in
+    first_refusal
+    (first_no (input_fits input ∷ [])
+    ∷ record_no input places
+    ∷ pass_no m places places text_bytes
+    ∷ total_no m total_bytes
+    ∷ [])
 
 -- the seven texts in the order of their lines
 abbrev pub sheet_kinds : List Kind
@@ -58,18 +62,14 @@ abbrev pub text_lines : List Kind → List ℕ → List ℕ
 text_lines [] m = []
 text_lines (k ∷ ks) m = line (text k m) ++ text_lines ks m
 
--- Lines: name; counts; the six texts; Total
-abbrev pub chart_lines : List ℕ → List ℕ → List ℕ
-chart_lines name m = line name ++ (line (counts_line (counts (classes m))) ++ text_lines sheet_kinds m)
-
--- the line "refused N"
-abbrev pub refusal_line : ℕ → List ℕ
-refusal_line n = line (bytes "refused " ++ digits n)
-
--- what `sheet` prints: the chart's lines; a refusal prints only the line "refused N"
+-- Lines: name; counts; the six texts; Total. A refusal prints only the line "refused N"
 unfoldable pub sheet_bytes : List ℕ → List ℕ
-sheet_bytes input = accepted (sheet_no input) (chart_lines (name_of (fields_of input)) (chart_of input)) (refusal_line (sheet_no input))
+sheet_bytes input =
+    let m = chart_of input in
+    accepted (sheet_no input)
+    (line (name_of (fields_of input)) ++ (line (counts_line (counts (classes m))) ++ text_lines sheet_kinds m))
+    (line (bytes "refused " ++ digits (sheet_no input)))
 
--- print_sheet: these bytes, and their number; the places after them are 0
+-- print_sheet: these bytes, and their number; the places behind them are 0
 pub record Printed (input : List ℕ) (r : Sheet) : Type 0 where
   pub answer : r ≡ record { bytes = filled (replicate 66048 0) (sheet_bytes input); length = length (sheet_bytes input) }

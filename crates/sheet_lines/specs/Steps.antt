@@ -1,11 +1,15 @@
 -- What the functions that put the lines ask and promise.
 -- Assumes nothing.
 use Rattle.std.specs.Prelude.{ℕ, ◌+◌, ◌≤◌, ◌≡◌, List, [], ◌∷◌, ◌++◌, length, take, drop}
+use Rattle.number.specs.Digits.{digits}
 use Rattle.number.specs.Questions.{accepted, filled}
 use Rattle.number.specs.Place.{Room}
+use Rattle.rules.specs.Bytes.{bytes}
+use Rattle.rules.specs.Chart.{classes, counts}
 use Rattle.rules.specs.declared.StreamCounts.{StreamCounts}
 use Rattle.counts_line.specs.CountsLine.{line, counts_line}
-use Rattle.sheet_lines.specs.Sheet.{texts_no, chart_lines, refusal_line}
+use Rattle.stream_outputs.specs.Promises.{pass_no}
+use Rattle.sheet_lines.specs.Sheet.{places, text_bytes, total_bytes, first_refusal, total_no, sheet_kinds, text_lines}
 
 -- the bytes xs at the slice's start, later places as they were; r is their number
 pub record AtStart (old new xs : List ℕ) (r : ℕ) : Type 0 where
@@ -20,6 +24,10 @@ pub record Roomy (out : List ℕ) : Type 0 where
 pub record NameRoom (name out : List ℕ) : Type 0 where
   pub short : length name ≤ 64
   pub most : 66048 ≤ length out
+
+-- the line of a refusal
+abbrev pub refusal_line : ℕ → List ℕ
+refusal_line n = line (bytes "refused " ++ digits n)
 
 -- the sum of some numbers
 abbrev pub sum : List ℕ → ℕ
@@ -45,6 +53,11 @@ pub record LinesRoom (out name : List ℕ) (c : StreamCounts) (texts ns total : 
   pub within : sum ns ≤ length texts
   pub room : Room out 0 (all_lines name c texts ns total)
 
+-- the number of the first no of the pass and of Total
+unfoldable pub texts_no : List ℕ → ℕ
+texts_no m = first_refusal (pass_no m places places text_bytes ∷ total_no m total_bytes ∷ [])
+
 -- what is printed for a record that was read: its name, and its chart m
 unfoldable pub chart_bytes : List ℕ → List ℕ → List ℕ
-chart_bytes name m = accepted (texts_no m) (chart_lines name m) (refusal_line (texts_no m))
+chart_bytes name m =
+    accepted (texts_no m) (line name ++ (line (counts_line (counts (classes m))) ++ text_lines sheet_kinds m)) (refusal_line (texts_no m))

@@ -1,8 +1,7 @@
 // Lines, each put at a place and ended by 0A; the next place is answered.
 ghost use Rattle.number.specs.Place.{Room, Wrote};
 ghost use Rattle.counts_line.specs.CountsLine.{line};
-ghost use Rattle.sheet_lines.specs.Sheet.{refusal_line};
-ghost use Rattle.sheet_lines.specs.Steps.{AtStart, Roomy, cut_lines, Cuts};
+ghost use Rattle.sheet_lines.specs.Steps.{AtStart, Roomy, refusal_line, cut_lines, Cuts};
 
 use number::put_u64;
 use text_buffer::put::put_bytes;

@@ -2,60 +2,89 @@
 -- Assumes nothing.
 use Prim.Native.Nat.{ℕ, ◌≤◌}
 use mathlib.Core.Path.{◌≡◌, refl, sym, ap, ◌∙◌}
-use mathlib.Core.Bool.{Bool, true, false, not}
+use mathlib.Core.Bool.{Bool, true, false, cond, not}
 use mathlib.Core.Logic.{◌≢◌}
 use mathlib.Core.List.{List, [], ◌∷◌}
 use native.Mathlib.Omega.{arith}
 use lib.Dec.{leb}
 use lib.ListN.{length}
 use borrow.Author.Tests.{leb-true, leb-false, not-true, not-false}
-use Rattle.number.specs.Questions.{first_no, filled, room_for, OneText}
+use Rattle.number.specs.Questions.{Question, first_no, accepted, filled, room_for, OneText}
 use Rattle.number.specs.Place.{Room, Wrote}
 use Rattle.number.specs.declared.Written.{Written}
+use Rattle.number.proofs.Split.{split}
 use Rattle.number.proofs.Questions.{refused-is}
 use Rattle.number.proofs.Push.{room-yes, refused-4}
 use Rattle.number.proofs.Place.{one-text}
 use Rattle.rules.specs.Bytes.{bytes}
+use Rattle.rules.specs.Slices.{total}
 use Rattle.rules.specs.Texts.{render}
 use Rattle.sn_to_standard.specs.Reader.{Reading, outside, inside, reading}
-use Rattle.sn_to_standard.specs.Converted.{converted}
+use Rattle.sn_to_standard.specs.Converted.{with_gaps, undecided, within_rules, decided, converted}
 use Rattle.sn_to_standard.specs.Copied.{copied}
-use Rattle.sn_to_standard.specs.Promises.{text_no, SnToStandard}
-use Rattle.sn_to_standard.proofs.Laws.{is-decided, call-no, text-passes, short}
+use Rattle.sn_to_standard.specs.Promises.{text_no, sn_to_standard_no, SnToStandard}
+use Rattle.sn_to_standard.proofs.Laws.{long-fails}
 use Rattle.sn_to_standard.proofs.Copying.{copy-converted}
 
--- ---- what is written
+-- ---- questions
 
-is-copied : (t : List ℕ) (r : Reading) → t ≢ [] → reading t ≡ r → text_no t ≡ 0 → converted t ≡ copied t
-is-copied t outside h e z = absurd (omega (arith, rw e at (text-passes t z).0))
-is-copied t (inside ts) h e z = copy-converted t ts h e (is-decided ts (rw e at (text-passes t z).1))
+-- 18 unless a, then 19 if b, else k
+abbrev no : Bool → Bool → ℕ → ℕ
+no a b k = cond a (cond (not b) k 19) 18
+
+asked-last : (a b : Bool) (k : ℕ) → no a b k ≡ accepted (no a b 0) k (no a b 0)
+asked-last true true k = refl
+asked-last true false k = refl
+asked-last false b k = refl
+
+decided-then : (a b : Bool) → no a b 0 ≡ 0 → b ≡ false
+decided-then true true e = absurd (omega arith)
+decided-then true false e = refl
+decided-then false b e = absurd (omega arith)
+
+room-last : (r : Reading) (q : Question)
+    → first_no (within_rules r ∷ decided r ∷ q ∷ [])
+    ≡ accepted (first_no (within_rules r ∷ decided r ∷ [])) (first_no (q ∷ [])) (first_no (within_rules r ∷ decided r ∷ []))
+room-last outside q = refl
+room-last (inside ts) q = asked-last (leb (total (with_gaps ts)) 1048576) (undecided ts) (first_no (q ∷ []))
+
+is-copied : (t : List ℕ) (r : Reading) → t ≢ [] → reading t ≡ r → first_no (within_rules r ∷ decided r ∷ []) ≡ 0 → converted t ≡ copied t
+is-copied t outside h e z = absurd (omega arith)
+is-copied t (inside ts) h e z = copy-converted t ts h e (decided-then (leb (total (with_gaps ts)) 1048576) (undecided ts) z)
 
 is-empty : (t : List ℕ) → length t ≡ 0 → converted t ≡ bytes "No Streams!"
 unfolding converted reading render
 is-empty [] h = refl
 is-empty (x ∷ xs) h = absurd (omega arith)
 
--- ---- the call
-
 -- a text that passes 18 is not refused unread
 pub call-short : (t : List ℕ) (n : ℕ) → n ≡ text_no t → n ≡ 0 → length t ≤ 4194304
-call-short t n e z = short t (text-passes t (sym e ∙ z)).0
+call-short t n e z =
+    split (leb (length t) 4194304) (leb-true (length t) 4194304)
+    (λ h. let k = long-fails t (leb-false (length t) 4194304 h) in absurd (omega (arith, e, z)))
+
+-- ---- the call
 
 module _ (t old : List ℕ) (n : ℕ) (e : n ≡ text_no t) where
+  call-no : sn_to_standard_no t old ≡ accepted n (first_no (room_for (converted t) old ∷ [])) n
+  unfolding text_no sn_to_standard_no
+  call-no = rw e (room-last (reading t) (room_for (converted t) old))
+
   pub call-refused : n ≢ 0 → SnToStandard t old old (record { refused = n; length = 0 })
   call-refused h =
-      rw (call-no t old, ← e, refused-is n (first_no (room_for (converted t) old ∷ [])) n h)
+      rw (call-no, refused-is n (first_no (room_for (converted t) old ∷ [])) n h)
       (record { answer = rw (refused-is n (length (converted t)) 0 h); bytes = sym (refused-is n (filled old (converted t)) old h) })
 
   module _ (z : n ≡ 0) {new : List ℕ} {r : Written} where
     by-room : (text : List ℕ) → converted t ≡ text → OneText (first_no (room_for text old ∷ [])) text old new r → SnToStandard t old new r
-    by-room text q h = rw (call-no t old, ← e, z, q) h
+    by-room text q h = rw (call-no, z, q) h
 
     pub call-empty : length t ≡ 0 → OneText (first_no (room_for (bytes "No Streams!") old ∷ [])) (bytes "No Streams!") old new r → SnToStandard t old new r
     call-empty l h = by-room (bytes "No Streams!") (is-empty t l) h
 
     pub call-copied : length t ≢ 0 → OneText (first_no (room_for (copied t) old ∷ [])) (copied t) old new r → SnToStandard t old new r
-    call-copied l h = by-room (copied t) (is-copied t (reading t) (λ q. l (ap length q)) refl (sym e ∙ z)) h
+    unfolding text_no
+    call-copied l h = by-room (copied t) (is-copied t (reading t) (λ q. l (ap length q)) refl (rw (← e) z)) h
 
 -- ---- room
 

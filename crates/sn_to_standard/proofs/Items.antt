@@ -12,12 +12,12 @@ use lib.Seq.{drop-cons}
 use borrow.Author.Tests.{eqb-true, eqb-false}
 use Rattle.number.proofs.Split.{split}
 use Rattle.rules.specs.Texts.{mark}
-use Rattle.sn_to_standard.specs.Reader.{first_class}
-use Rattle.sn_to_standard.specs.Items.{Within, NumberIs, NumberRead, mark_class, NoRun, RunRead, BreakRead}
+use Rattle.sn_to_standard.specs.Reader.{words, first_class, expect_run}
+use Rattle.sn_to_standard.specs.Items.{Fails, Within, NumberIs, NumberRead, mark_class, RunRead, BreakRead}
 use Rattle.sn_to_standard.specs.declared.item.Number.{Number}
 use Rattle.sn_to_standard.specs.declared.item.Item.{Item}
 use Rattle.sn_to_standard.proofs.Numbers.{one_number, starts, stopped}
-use Rattle.sn_to_standard.proofs.Stepping.{parted-stops, in-run, expect-fails, break-fails}
+use Rattle.sn_to_standard.proofs.Stepping.{parted-stops, in-run, expect-fails, after-fails}
 
 -- ---- bytes of a text
 
@@ -55,7 +55,7 @@ pub record Marked (text : List ℕ) (at k next : ℕ) : Type 0 where
 
 module _ {text : List ℕ} {at k next : ℕ} (m : Marked text at k next) {n : Number} (r : NumberRead text next n) where
   -- the mark is not behind the number
-  unclosed : ((rest : List ℕ) → 1 ≤ n.value → ¬ (drop n.next text ≡ mark k ++ rest)) → NoRun (drop at text)
+  unclosed : ((rest : List ℕ) → 1 ≤ n.value → ¬ (drop n.next text ≡ mark k ++ rest)) → Fails (expect_run (words (drop at text)))
   unclosed f =
       expect-fails (drop at text)
       (λ c v rest i l p w.
@@ -128,12 +128,12 @@ module _ (text : List ℕ) (at : ℕ) where
   -- ---- a break
 
   module _ {n : Number} (r : NumberRead text at n) where
-    pub no-break : (q : Number) → q.value ≡ 0 → (2 ≤ n.value → n.next + 1 < length text → get_or text n.next 0 ≡ 41 → get_or text (n.next + 1) 0 ≢ 32)
+    pub no-break : (q : Item) → q.length ≡ 0 → (2 ≤ n.value → n.next + 1 < length text → get_or text n.next 0 ≡ 41 → get_or text (n.next + 1) 0 ≢ 32)
         → BreakRead text at q
     no-break q z f =
         record {
           most = omega arith;
-          none = λ e. break-fails (drop at text) (λ v rest l m w.
+          none = λ e. after-fails (40 ∷ drop at text) refl (λ v rest l m w.
               let i : NumberIs (drop at text) (41 ∷ 32 ∷ rest) v = record { written = tail-eq_of_cons-eq (simp append_assoc at w); stops = refl } in
               let o = only-read r (omega arith) m i in
               let g = begins text n.next 41 (32 ∷ rest) (sym o.1) in
@@ -143,7 +143,7 @@ module _ (text : List ℕ) (at : ℕ) where
         }
 
     pub some-break : 2 ≤ n.value → n.next + 1 < length text → get_or text n.next 0 ≡ 41 → get_or text (n.next + 1) 0 ≡ 32
-        → BreakRead text at (record { value = n.value; next = n.next + 2 })
+        → BreakRead text at (record { class = 0; length = n.value; next = n.next + 2 })
     some-break v h p s =
         let two : n.next + 1 + 1 ≡ n.next + 2 = omega arith in
         let e : drop n.next text ≡ 41 ∷ 32 ∷ drop (n.next + 2) text =

@@ -1,17 +1,18 @@
--- The laws of A.5; and what the questions on a text tell: no text of more than 4,194,304 bytes passes 18.
+-- The laws of A.5; and no text of more than 4,194,304 bytes passes 18.
 -- Assumes nothing.
 use Prim.Native.Nat.{ℕ, ◌*◌, ◌≤◌, ◌<◌}
 use mathlib.Core.Path.{◌≡◌, refl, sym, ap, ◌∙◌}
-use mathlib.Core.Bool.{Bool, true, false}
-use mathlib.Core.Logic.{◌⊎◌, ⊎_elim}
+use mathlib.Core.Bool.{Bool, true, false, not}
+use mathlib.Core.Logic.Iff
+use mathlib.Core.Logic.{◌↔◌, ◌⊎◌, ⊎_elim}
 use mathlib.Core.List.{List, [], ◌∷◌}
 use native.Mathlib.Omega.{arith}
 use lib.Dec.{leb}
 use lib.ListN.{length}
 use borrow.Author.Tests.{leb-true, le-leb}
-use Rattle.number.specs.Questions.{Question, first_no, accepted, room_for}
+use Rattle.number.specs.Questions.{Question, question, first_no}
+use Rattle.number.specs.declared.Written.{Written}
 use Rattle.number.proofs.Split.{split}
-use Rattle.number.proofs.Questions.{both_yes, Numbered, first-no-append}
 use Rattle.rules.specs.Chart.{classes, active, Token, tokens}
 use Rattle.rules.specs.Slices.{total}
 use Rattle.rules.specs.Reduced.{pieces, reduced}
@@ -22,8 +23,8 @@ use Rattle.rules.proofs.Demand.{exactly}
 use Rattle.rules.proofs.Places.{no-active}
 use Rattle.sn_to_standard.specs.Reader.{Reading, outside, inside, reading}
 use Rattle.sn_to_standard.specs.Converted.{with_gaps, undecided, within_rules, decided, converted}
-use Rattle.sn_to_standard.specs.Promises.{text_no, sn_to_standard_no}
-use Rattle.sn_to_standard.specs.Laws.{sn_text, standard_text, Passes18, Passes19, SomeChart, TwoCharts, Converts, Ordered}
+use Rattle.sn_to_standard.specs.Promises.{text_no, sn_to_standard_no, SnToStandard}
+use Rattle.sn_to_standard.specs.Laws.{sn_text, standard_text, Passes18, Passes19, SomeChart, TwoCharts, Converts, Answers, Ordered}
 use Rattle.sn_to_standard.specs.Laws.{writing, OwnText, SnToStandardLaws}
 use Rattle.sn_to_standard.proofs.Charts.{Shows, chart-shows, gapped, gapped-shows, gapped-more}
 use Rattle.sn_to_standard.proofs.Spread.{chart_of, chart-of, chart-long, chart-tokens}
@@ -82,13 +83,10 @@ module _ {us : List Token} (o : (us ≡ []) ⊎ Ordered us) where
 
 -- ---- texts
 
-pub is-decided : (us : List Token) → first_no (decided (inside us) ∷ []) ≡ 0 → undecided us ≡ false
-is-decided us p = split (undecided us) (λ u. absurd (omega (arith, rw u at p))) (λ u. u)
-
 one : (t : List ℕ) → Passes19 t → (m : List ℕ) → sn_text m ≡ t → standard_text m ≡ converted t
 one t p m e =
     let (us, s) = chart-shows m in
-    own-standard m s (is-decided us (rw (own_read m s) at (rw (← e) at p))) ∙ ap converted e
+    split (undecided us) (λ u. absurd (omega (arith, rw (own_read m s, u) at (rw (← e) at p)))) (own-standard m s) ∙ ap converted e
 
 converts : (t : List ℕ) → Passes18 t → Converts t
 converts t p = by-reading (reading t) refl
@@ -106,35 +104,43 @@ converts t p = by-reading (reading t) refl
           );
         }
 
--- ---- the questions on a text
+-- ---- a call, by its questions 18, 19 and 4
 
--- they have numbers, if those that follow them have
-pub numbered : (r : Reading) (qs : List Question) → Numbered qs → Numbered (within_rules r ∷ qs) × Numbered (within_rules r ∷ decided r ∷ qs)
-numbered outside qs h = (h, h)
-numbered (inside us) qs h = (h, h)
+record Asked (w d : Question) (c : Bool) : Type 0 where
+  passed : first_no (w ∷ d ∷ question 4 c ∷ []) ≡ 0 → (first_no (w ∷ []) ≡ 0) × (first_no (d ∷ []) ≡ 0)
+  stopped : first_no (w ∷ []) ≡ 0 → (first_no (w ∷ d ∷ question 4 c ∷ []) ≡ 19) ↔ ¬ (first_no (d ∷ []) ≡ 0)
+  failed : ¬ (first_no (w ∷ []) ≡ 0) → first_no (w ∷ d ∷ []) ≡ 18
 
-pub call-no : (t old : List ℕ) → sn_to_standard_no t old ≡ accepted (text_no t) (first_no (room_for (converted t) old ∷ [])) (text_no t)
-unfolding text_no sn_to_standard_no
-call-no t old = first-no-append (within_rules (reading t) ∷ decided (reading t) ∷ []) (room_for (converted t) old ∷ []) (numbered (reading t) [] tt).1
+asked : (a b c : Bool) → Asked (question 18 a) (question 19 b) c
+asked false b c = omega arith
+asked true false c = omega arith
+asked true true false = omega arith
+asked true true true = omega arith
 
-pub text-passes : (t : List ℕ) → text_no t ≡ 0 → Passes18 t × Passes19 t
-unfolding text_no
-text-passes t z = both_yes _ _ (sym (first-no-append (within_rules (reading t) ∷ []) (decided (reading t) ∷ []) (numbered (reading t) [] tt).0) ∙ z)
+reading-asked : (r : Reading) (c : Bool) → Asked (within_rules r) (decided r) c
+reading-asked outside c = asked false true c
+reading-asked (inside us) c = asked (leb (total (with_gaps us)) 1048576) (not (undecided us)) c
 
 -- an SN text has at most 4 bytes a measure
-pub short : (t : List ℕ) → Passes18 t → length t ≤ 4194304
-short t p =
-    let c = (converts t p).some in
-    let most : length (sn_text c.m) ≤ 4 * length c.m = text-most c.m _ in
-    omega (arith, c.few, ap length c.has)
-
 pub long-fails : (t : List ℕ) → 4194304 < length t → text_no t ≡ 18
 unfolding text_no
-long-fails t h = by-reading (reading t) (λ p. omega (arith, short t p))
-  where
-    by-reading : (r : Reading) → ¬ (first_no (within_rules r ∷ []) ≡ 0) → first_no (within_rules r ∷ decided r ∷ []) ≡ 18
-    by-reading outside f = refl
-    by-reading (inside us) f = split (leb (total (with_gaps us)) 1048576) (λ q. absurd (f (rw q))) (λ q. rw q)
+long-fails t h =
+    (reading-asked (reading t) true).failed
+    (λ p.
+    let c = (converts t p).some in
+    let most : length (sn_text c.m) ≤ 4 * length c.m = text-most c.m _ in
+    omega (arith, c.few, ap length c.has))
+
+answers : (t old new : List ℕ) (r : Written) → SnToStandard t old new r → Answers t old new r
+unfolding sn_to_standard_no
+answers t old new r c =
+    let s = reading-asked (reading t) (leb (length (converted t)) (length old)) in
+    rw (c.answer, c.bytes)
+    (record {
+      some = λ z. (converts t (s.passed z).0).some;
+      right = λ z m e. rw (z, one t (s.passed z).1 m e) (refl, refl);
+      exactly = λ p. Iff.trans (s.stopped p) (converts t p).two;
+    })
 
 pub laws : SnToStandardLaws
-laws = record { exact = reads-exactly; converts = converts; own = own }
+laws = record { exact = reads-exactly; converts = converts; own = own; answers = answers }

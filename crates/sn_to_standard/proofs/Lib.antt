@@ -8,7 +8,6 @@ pub mod Table
 pub mod Numbers
 pub mod Stepping
 pub mod Items
-pub mod DescentAnswers
 pub mod Descents
 pub mod Blocks
 pub mod Copying

@@ -9,7 +9,7 @@ use lib.Dec.{leb, eqb}
 use borrow.Author.Tests.{eqb-true, leb-true, le-leb, ne_eqb, not-true}
 use Rattle.number.specs.Digits.{digits, is_digit, value}
 use Rattle.number.proofs.Split.{split, never}
-use Rattle.number.proofs.Each.{◌&◌, All, Some}
+use Rattle.number.proofs.Each.{none, ◌&◌, All, Some}
 use Rattle.number.proofs.Read.{value-digits, digits-all, digits-some}
 use Rattle.rules.specs.Bytes.{same_bytes}
 use Rattle.rules.specs.Chart.{Token, token}
@@ -46,15 +46,16 @@ pub record FirstWord (xs : List ℕ) : Type 0 where
   pub rest : List ℕ
   pub whole : xs ≡ w ++ rest
   pub parted : Parted rest
+  pub solid-all : All solid true w
   pub split-as : words xs ≡ w ∷ after_words rest
 
 pub first_word : (xs : List ℕ) → FirstWord xs
-first_word [] = record { w = []; rest = []; whole = refl; parted = tt; split-as = refl }
+first_word [] = record { w = []; rest = []; whole = refl; parted = tt; solid-all = none; split-as = refl }
 first_word (x ∷ xs) =
     let f = first_word xs in
     split (eqb x 32)
-    (λ e. record { w = []; rest = x ∷ xs; whole = refl; parted = eqb-true x 32 e; split-as = rw e })
-    (λ e. record { w = x ∷ f.w; rest = f.rest; whole = (cc); parted = f.parted; split-as = rw (e, f.split-as) })
+    (λ e. record { w = []; rest = x ∷ xs; whole = refl; parted = eqb-true x 32 e; solid-all = none; split-as = rw e })
+    (λ e. record { w = x ∷ f.w; rest = f.rest; whole = (cc); parted = f.parted; solid-all = (rw e) & f.solid-all; split-as = rw (e, f.split-as) })
 
 -- ---- what a word shows
 

@@ -1,52 +1,75 @@
--- How a descent goes on where a run or a break is written; and that it fails where none is.
+-- How the reading goes on where a run or a break is written; and that the text fails where none is.
 -- Assumes nothing.
-use Prim.Native.Nat.{ℕ, zero, suc, ◌+◌, ◌≤◌}
+use Prim.Native.Nat.{ℕ, zero, suc, ◌+◌, ◌≤◌, ◌<◌}
 use mathlib.Core.Path.{◌≡◌, refl, sym, ap, ◌∙◌}
-use mathlib.Core.Bool.{Bool, false, cond, ◌||◌}
+use mathlib.Core.Bool.{Bool, false, ◌||◌, and-false, or_assoc, false≢true}
 use mathlib.Core.List.{List, [], ◌∷◌, ◌++◌, append_assoc, append-nil, append_cancel_left}
 use native.Mathlib.Omega.{arith}
 use lib.Dec.{leb, eqb}
-use lib.ListN.{length}
 use borrow.Author.Tests.{eqb-true, eqb-false, le-leb, lt-leb}
 use Rattle.number.specs.Digits.{digits}
+use Rattle.number.specs.Questions.{first_no}
 use Rattle.number.proofs.Split.{split}
-use Rattle.rules.specs.Chart.{token}
+use Rattle.rules.specs.Chart.{Token, token, class, len}
+use Rattle.rules.specs.Slices.{total}
 use Rattle.rules.specs.Reduced.{run, gap}
 use Rattle.rules.specs.Texts.{mark, word}
+use Rattle.rules.proofs.Cost.{total-append}
 use Rattle.rules.proofs.Words.{word-solid}
-use Rattle.sn_to_standard.specs.Reader.{words, first_class, shown, is_run, is_break}
-use Rattle.sn_to_standard.specs.Converted.{two_classes}
+use Rattle.sn_to_standard.specs.Reader.{words, first_class, shown, is_run, is_break, Reading, outside, inside, before, expect_run, after_run}
+use Rattle.sn_to_standard.specs.Converted.{one_class, two_classes, gap_behind, with_gaps, undecided_behind, undecided, within_rules, decided}
 use Rattle.sn_to_standard.specs.Laws.{Run}
-use Rattle.sn_to_standard.specs.Descents.{more_measures, opens, follow_stop, expect_stop, after_stop}
-use Rattle.sn_to_standard.specs.Items.{Stops, NumberIs, NoRun, NoBreak}
+use Rattle.sn_to_standard.specs.Items.{rest_no, Fails, more_measures, Stops, NumberIs}
+use Rattle.sn_to_standard.specs.Descents.{after_bytes, opens}
 use Rattle.sn_to_standard.proofs.Shown.{words_more, words_last, Parted, after_words, first_word, first-class}
 use Rattle.sn_to_standard.proofs.Shown.{shown-run, shown-break, run-word, break-word, run_is}
 use Rattle.sn_to_standard.proofs.Numbers.{one_number}
 
--- whatever the measures
-either_way : (b : Bool) {n : ℕ} → cond b n n ≡ n
-either_way b = split b (λ e. rw e) (λ e. rw e)
+-- ---- the text's number behind one more token
+
+pub rest-first : (c m : ℕ) (u : Bool) (t : Token) (r : Reading)
+    → rest_no c m u (before t r) ≡ rest_no (class t) (more_measures c m t) (u || two_classes (token c 1 false) t) r
+rest-first c m u (token d n s) outside = refl
+rest-first c m u (token d n s) (inside ts) =
+    let g = total (gap_behind one_class (token c 1 false) (token d n s ∷ [])) in
+    let b = gap_behind one_class (token d 1 false) ts in
+    let sum : m + (g + (n + total (b ++ with_gaps ts))) ≡ m + (g + n) + (total b + total (with_gaps ts)) = omega (arith, total-append b (with_gaps ts)) in
+    rw ((same ts).0, (same ts).1, sum, ← (or_assoc u (two_classes (token c 1 false) (token d n s)) (undecided_behind (token d 1 false) ts || undecided ts)))
+  where
+    -- only the class of the token before tells
+    same : (ts : List Token)
+        → (gap_behind one_class (token d n s) ts ≡ gap_behind one_class (token d 1 false) ts)
+        × (undecided_behind (token d n s) ts ≡ undecided_behind (token d 1 false) ts)
+    same [] = (refl, refl)
+    same (u ∷ us) = (refl, refl)
+
+pub rest-many : (c m : ℕ) (u : Bool) (r : Reading) → 1048576 < m → rest_no c m u r ≡ 18
+rest-many c m u outside h = refl
+rest-many c m u (inside ts) h = rw (lt-leb (m + (total (gap_behind one_class (token c 1 false) ts) + total (with_gaps ts))) 1048576 (omega arith))
+
+fails-outside : Fails outside
+fails-outside c m u = refl
+
+-- no token of at most 1,048,576 measures
+fails-long : (t : Token) (r : Reading) → (len t ≤ 1048576 → ⊥) → Fails (before t r)
+fails-long t r h c m u = rest-first c m u t r ∙ rest-many (class t) (more_measures c m t) (u || two_classes (token c 1 false) t) r (omega arith)
 
 -- ---- a run
 
--- what holds of words of which the first is no run, and of a run's word and those after it, holds of the words of a text
-by-run : (P : List (List ℕ) → Type 0) (xs : List ℕ) → ((w : List ℕ) (ws : List (List ℕ)) → is_run (shown w) ≡ false → P (w ∷ ws))
-    → ((c n : ℕ) (rest : List ℕ) → Run c n → Parted rest → xs ≡ word (run c n false) ++ rest → P (word (run c n false) ∷ after_words rest))
-    → P (words xs)
+-- what holds of a text outside the rules, and of one that begins with a run, holds where a run is expected
+by-run : (P : Reading → Type 0) (xs : List ℕ) → P outside
+    → ((c n : ℕ) (rest : List ℕ) → Run c n → Parted rest → xs ≡ word (run c n false) ++ rest → P (before (token c n false) (after_run (after_words rest))))
+    → P (expect_run (words xs))
 by-run P xs o r =
     let f = first_word xs in
     rw f.split-as
     (split (is_run (shown f.w))
-    (λ e. let q = run-word f.w e in rw q.written (r q.c q.n f.rest q.run_of f.parted (rw (← q.written) f.whole)))
-    (o f.w (after_words f.rest)))
+    (λ e. let q = run-word f.w e in rw (e, q.token-of) (r q.c q.n f.rest q.run_of f.parted (rw (← q.written) f.whole)))
+    (λ e. rw e o))
 
-pub expect-fails : (xs : List ℕ) → ((c n : ℕ) (rest : List ℕ) → Run c n → n ≤ 1048576 → Parted rest → ¬ (xs ≡ word (run c n false) ++ rest)) → NoRun xs
-unfolding expect_stop
-expect-fails xs f k at c m u =
-    by-run (λ ws. expect_stop (suc k) ws at c m u ≡ 18) xs (λ w ws e. rw e)
-    (λ d n rest r p e.
-    let long : n ≤ 1048576 → ⊥ = λ l. f d n rest r l p e in
-    rw (shown-run d n r, run_is d n r, lt-leb (more_measures c m (token d n false)) 1048576 (omega arith)))
+pub expect-fails : (xs : List ℕ) → ((c n : ℕ) (rest : List ℕ) → Run c n → n ≤ 1048576 → Parted rest → ¬ (xs ≡ word (run c n false) ++ rest))
+    → Fails (expect_run (words xs))
+expect-fails xs f = by-run Fails xs fails-outside (λ c n rest r p e. fails-long (token c n false) (after_run (after_words rest)) (λ l. f c n rest r l p e))
 
 pub parted-stops : (xs : List ℕ) → Parted xs → Stops xs
 parted-stops [] p = tt
@@ -68,67 +91,69 @@ in-run k c n ys zs {xs} f e r s w =
     let v : word (run c n false) ++ zs ≡ mark k ++ (digits n ++ (mark k ++ zs)) = rw (← g) (simp append_assoc) in
     record { written = append_cancel_left (mark k) ys (digits n ++ (mark k ++ zs)) (sym e ∙ w ∙ v); stops = rw g at (mark-stops c zs r.class-least s) }
 
--- a run's word, and what stands after it
-pub run_step : (d n : ℕ) (zs : List ℕ) → Run d n → (d ≡ 1 → Stops zs) → (k at c m : ℕ) (u : Bool)
-    → expect_stop (suc k) (words (word (run d n false) ++ zs)) at c m u
-    ≡ cond (leb (more_measures c m (token d n false)) 1048576)
-    (after_stop k zs (at + length (word (run d n false))) d (more_measures c m (token d n false)) (u || two_classes (token c 1 false) (token d n false)))
-    18
-unfolding expect_stop follow_stop
-run_step d n [] r s k at c m u =
-    rw (append-nil (word (run d n false)), words_last (word (run d n false)) (word-solid (run d n false)), shown-run d n r, run_is d n r)
-run_step d n (x ∷ zs) r s k at c m u =
+-- a run's word, and what stands behind it
+pub run_step : (c n : ℕ) (zs : List ℕ) → Run c n → (c ≡ 1 → Stops zs)
+    → expect_run (words (word (run c n false) ++ zs)) ≡ before (token c n false) (after_bytes zs)
+run_step c n [] r s = rw (append-nil (word (run c n false)), words_last (word (run c n false)) (word-solid (run c n false)), shown-run c n r, run_is c n r)
+run_step c n (x ∷ zs) r s =
     split (eqb x 32)
-    (λ e. rw (e, eqb-true x 32 e, words_more (word (run d n false)) zs (word-solid (run d n false)), shown-run d n r, run_is d n r))
-    (λ e. rw (e, either_way (leb (more_measures c m (token d n false)) 1048576))
-    (by-run (λ ws. expect_stop (suc k) ws at c m u ≡ 18) (word (run d n false) ++ (x ∷ zs)) (λ w ws o. rw o)
-    (λ b v rest q p w. absurd (joined e b v rest q p w))))
+    (λ e. rw (e, eqb-true x 32 e, words_more (word (run c n false)) zs (word-solid (run c n false)), shown-run c n r, run_is c n r))
+    (λ e. rw e (by-run (λ q. q ≡ outside) (word (run c n false) ++ (x ∷ zs)) refl (λ d m rest q p w. absurd (joined e d m rest q p w))))
   where
-    joined : eqb x 32 ≡ false → (b v : ℕ) (rest : List ℕ) → Run b v → Parted rest → ¬ (word (run d n false) ++ (x ∷ zs) ≡ word (run b v false) ++ rest)
-    joined e b v rest q p w =
-        let ys = digits n ++ (mark d ++ (x ∷ zs)) in
-        let g : word (run d n false) ++ (x ∷ zs) ≡ mark d ++ ys = simp append_assoc in
-        let i = in-run d b v ys rest (λ h. first-class d n (x ∷ zs) r) g q (λ h. parted-stops rest p) w in
-        let j : NumberIs ys (mark d ++ (x ∷ zs)) n = record { written = refl; stops = mark-stops d (x ∷ zs) r.class-least s } in
-        eqb-false x 32 e (rw (append_cancel_left (mark d) rest (x ∷ zs) (one_number i j).1) at p)
+    joined : eqb x 32 ≡ false → (d m : ℕ) (rest : List ℕ) → Run d m → Parted rest → ¬ (word (run c n false) ++ (x ∷ zs) ≡ word (run d m false) ++ rest)
+    joined e d m rest q p w =
+        let ys = digits n ++ (mark c ++ (x ∷ zs)) in
+        let v : word (run c n false) ++ (x ∷ zs) ≡ mark c ++ ys = simp append_assoc in
+        let i = in-run c d m ys rest (λ h. first-class c n (x ∷ zs) r) v q (λ h. parted-stops rest p) w in
+        let b : NumberIs ys (mark c ++ (x ∷ zs)) n = record { written = refl; stops = mark-stops c (x ∷ zs) r.class-least s } in
+        eqb-false x 32 e (rw (append_cancel_left (mark c) rest (x ∷ zs) (one_number i b).1) at p)
 
 -- ---- a break
 
-pub break-step : (v : ℕ) (ys : List ℕ) → 2 ≤ v → (k at c m : ℕ) (u : Bool)
-    → follow_stop (expect_stop k) (words (word (gap v) ++ (32 ∷ ys))) at c m u
-    ≡ cond (leb (m + v) 1048576) (expect_stop k (words ys) (at + length (word (gap v)) + 1) 0 (m + v) u) 18
-unfolding follow_stop
-break-step v ys h k at c m u = rw (words_more (word (gap v)) ys (word-solid (gap v)), shown-break v, le-leb 2 v h)
+pub break-step : (k : ℕ) (ys : List ℕ) → 2 ≤ k → after_run (words (word (gap k) ++ (32 ∷ ys))) ≡ before (token 0 k false) (expect_run (words ys))
+break-step k ys h = rw (words_more (word (gap k)) ys (word-solid (gap k)), shown-break k, le-leb 2 k h)
 
-pub no_words : (k at c m : ℕ) (u : Bool) → expect_stop k [] at c m u ≡ 18
-unfolding expect_stop
-no_words zero at c m u = refl
-no_words (suc k) at c m u = refl
-
--- "(" and no break with a space after it
-pub break-fails : (xs : List ℕ) → ((v : ℕ) (rest : List ℕ) → 2 ≤ v → v ≤ 1048576 → ¬ (40 ∷ xs ≡ word (gap v) ++ (32 ∷ rest))) → NoBreak (40 ∷ xs)
-unfolding follow_stop
-break-fails xs f k at c m u =
+-- "(" and no break with a space behind it
+pub after-fails : (xs : List ℕ) → first_class xs ≡ 0 → ((k : ℕ) (rest : List ℕ) → 2 ≤ k → k ≤ 1048576 → ¬ (xs ≡ word (gap k) ++ (32 ∷ rest)))
+    → Fails (after_run (words xs))
+after-fails xs z f =
     let i = first_word xs in
     rw i.split-as
-    (split (is_break (shown (40 ∷ i.w)))
+    (split (is_run (shown i.w))
+    (λ e.
+    let q = run-word i.w e in
+    let w : xs ≡ word (run q.c q.n false) ++ i.rest = rw (← q.written) i.whole in
+    let c : 0 ≡ q.c = sym z ∙ ap first_class w ∙ first-class q.c q.n i.rest q.run_of in
+    absurd (omega (arith, q.run_of.class-least)))
+    (λ e. rw e
+    (split (is_break (shown i.w))
     (λ b.
-    let q = break-word (40 ∷ i.w) b in
-    rw (b, q.token-of)
-    (after q.k q.long _ i.rest i.parted (ap {B = List ℕ} (λ ys. 40 ∷ ys) i.whole ∙ ap (λ (w : List ℕ). w ++ i.rest) q.written)))
-    (λ b. rw b))
+    let q = break-word i.w b in
+    rw (b, q.token-of) (behind q.k q.long i.rest i.parted (i.whole ∙ ap (λ (w : List ℕ). w ++ i.rest) q.written)))
+    (λ b. rw b fails-outside))))
   where
-    after : (v : ℕ) → 2 ≤ v → (to : ℕ) (rest : List ℕ) → Parted rest → 40 ∷ xs ≡ word (gap v) ++ rest
-        → cond (leb (m + v) 1048576) (expect_stop k (after_words rest) to 0 (m + v) u) 18 ≡ 18
-    after v h to [] p w = rw (no_words k to 0 (m + v) u) (either_way (leb (m + v) 1048576))
-    after v h to (x ∷ rest) p w =
-        let long : v ≤ 1048576 → ⊥ = λ l. f v rest h l (rw p at w) in
-        rw (lt-leb (m + v) 1048576 (omega arith))
+    behind : (k : ℕ) → 2 ≤ k → (rest : List ℕ) → Parted rest → xs ≡ word (gap k) ++ rest → Fails (before (token 0 k false) (expect_run (after_words rest)))
+    behind k h [] p w = fails-outside
+    behind k h (x ∷ rest) p w = fails-long (token 0 k false) (expect_run (words rest)) (λ l. f k rest h l (rw p at w))
 
 -- ---- no break
 
-pub plain_step : (xs : List ℕ) → opens xs ≡ false → (k at c m : ℕ) (u : Bool)
-    → follow_stop (expect_stop k) (words xs) at c m u ≡ expect_stop k (words xs) at c m u
-unfolding follow_stop
-plain_step [] h k at c m u = refl
-plain_step (x ∷ xs) h k at c m u = split (eqb x 32) (λ e. rw e) (λ e. rw (e, (first_word xs).split-as, h))
+pub plain_step : (xs : List ℕ) → opens xs ≡ false → after_run (words xs) ≡ expect_run (words xs)
+plain_step xs h =
+    let f = first_word xs in
+    rw f.split-as
+    (split (is_break (shown f.w))
+    (λ e. absurd (false≢true (sym h ∙ rw (f.whole, (break-word f.w e).written))))
+    (λ e. rw e))
+
+-- ---- the whole text
+
+pub whole-no : (r : Reading) → rest_no 0 0 false r ≡ first_no (within_rules r ∷ decided r ∷ [])
+whole-no outside = refl
+whole-no (inside []) = refl
+whole-no (inside (t ∷ ts)) =
+    let sum : 0 + (0 + total (with_gaps (t ∷ ts))) ≡ total (with_gaps (t ∷ ts)) = omega arith in
+    rw (and-false (leb 1 (class t)), sum)
+    (split (leb (total (with_gaps (t ∷ ts))) 1048576)
+    (λ e. rw e (split (undecided (t ∷ ts)) (λ q. rw q) (λ q. rw q)))
+    (λ e. rw e))

@@ -1,55 +1,49 @@
--- What a descent of the reader answers, by the budget of runs that it reads.
+-- What the two functions of the reader promise each other: by where they stand, the text's number.
 -- Assumes nothing.
-use Rattle.std.specs.Prelude.{ℕ, zero, suc, ◌+◌, ◌*◌, ◌≤◌, Bool, false, cond, ◌&&◌, ◌||◌, List, [], ◌∷◌, leb, eqb, length}
-use Rattle.rules.specs.Chart.{Token, token, class, len}
-use Rattle.rules.specs.Slices.{total}
-use Rattle.sn_to_standard.specs.Reader.{words, shown, is_run, is_break}
-use Rattle.sn_to_standard.specs.Converted.{one_class, two_classes, gap_behind}
+use Rattle.std.specs.Prelude.{ℕ, ◌+◌, ◌*◌, ◌≤◌, ◌<◌, ◌≡◌, Bool, false, cond, ◌⊎◌, List, [], ◌∷◌, eqb, length, drop}
+use Rattle.sn_to_standard.specs.Reader.{words, Reading, outside, inside, expect_run, after_run}
+use Rattle.sn_to_standard.specs.Items.{rest_no}
 
--- a place of a text of at most 4,194,304 bytes, after at most 1,048,576 measures
-pub record StandsIn (text : List ℕ) (at c m : ℕ) : Type 0 where
-  pub short : length text ≤ 4194304
-  pub within : at ≤ length text
-  pub class-most : c ≤ 4
-  pub few : m ≤ 1048576
+-- what the bytes behind a run show: the end, or a space and what may follow
+abbrev pub after_bytes : List ℕ → Reading
+after_bytes [] = inside []
+after_bytes (x ∷ xs) = cond (eqb x 32) (after_run (words xs)) outside
 
--- m measures, the gap between class c and the token t, and t
-abbrev pub more_measures : ℕ → ℕ → Token → ℕ
-more_measures c m t = m + (total (gap_behind one_class (token c 1 false) (t ∷ [])) + len t)
+-- the text's number, m measures being read before `at`, the last of class c, and perhaps an undecided gap: where a run is expected, and behind one
+abbrev pub expect_no : List ℕ → ℕ → ℕ → ℕ → Bool → ℕ
+expect_no text at c m u = rest_no c m u (expect_run (words (drop at text)))
+
+abbrev pub after_no : List ℕ → ℕ → ℕ → ℕ → Bool → ℕ
+after_no text at c m u = rest_no c m u (after_bytes (drop at text))
 
 -- does a break begin here?
 abbrev pub opens : List ℕ → Bool
 opens [] = false
 opens (x ∷ xs) = eqb x 40
 
+-- a place of a text of at most 4,194,304 bytes, behind at most 1,048,576 measures
+pub record StandsIn (text : List ℕ) (at c m : ℕ) : Type 0 where
+  pub short : length text ≤ 4194304
+  pub within : at ≤ length text
+  pub class-most : c ≤ 4
+  pub few : m ≤ 1048576
+
 -- where a descent stops, in one number
 abbrev pub packed : ℕ → ℕ → ℕ → Bool → ℕ
-packed at c m u = at * 33554432 + c * 4194304 + cond u 1 0 * 2097152 + m
+packed at c m u = ((at * 8 + c) * 2 + cond u 1 0) * 2097152 + m
 
--- a descent, by the words from the place `at` on, m measures before it, the last of class c (0 at the start and after a break), and
--- perhaps an undecided gap: the text's number, 18, 19 or 0, or where it stopped
-abbrev pub Descent : Type 0
-Descent = List (List ℕ) → ℕ → ℕ → ℕ → Bool → ℕ
+-- a descent that stopped where a run is expected, in a text with the number n; it began at `from`
+pub record StoppedAt (text : List ℕ) (n from budget r : ℕ) : Type 0 where
+  pub at : ℕ
+  pub class : ℕ
+  pub measures : ℕ
+  pub undecided : Bool
+  pub place : r ≡ packed at class measures undecided
+  pub stands : StandsIn text at class measures
+  pub number : n ≡ expect_no text at class measures undecided
+  pub least : from ≤ at
+  pub further : 1 ≤ budget → from < at
 
--- after a run: the end, a run, or a break and a run. `next` answers where a run is expected
-unfoldable pub follow_stop : Descent → Descent
-follow_stop next [] at c m u = cond u 19 0
-follow_stop next (w ∷ ws) at c m u =
-    cond (opens w)
-    (cond (is_break (shown w) && leb (m + len (shown w)) 1048576) (next ws (at + length w + 1) 0 (m + len (shown w)) u) 18)
-    (next (w ∷ ws) at c m u)
-
--- where a run is expected, and the budget is the number of runs that are read
-unfoldable pub expect_stop : ℕ → Descent
-expect_stop zero [] at c m u = 18
-expect_stop zero (w ∷ ws) at c m u = packed at c m u
-expect_stop (suc k) [] at c m u = 18
-expect_stop (suc k) (w ∷ ws) at c m u =
-    cond (is_run (shown w) && leb (more_measures c m (shown w)) 1048576)
-    (follow_stop (expect_stop k) ws (at + length w + 1) (class (shown w)) (more_measures c m (shown w)) (u || two_classes (token c 1 false) (shown w)))
-    18
-
--- the same by the bytes right after a run: the end, or a space and what may follow
-abbrev pub after_stop : ℕ → List ℕ → ℕ → ℕ → ℕ → Bool → ℕ
-after_stop k [] at c m u = cond u 19 0
-after_stop k (x ∷ xs) at c m u = cond (eqb x 32) (follow_stop (expect_stop k) (words xs) (at + 1) c m u) 18
+-- a descent's answer: the text's number, or where it stopped
+abbrev pub Descended : List ℕ → ℕ → ℕ → ℕ → ℕ → Type 0
+Descended text n from budget r = ((n ≡ r) × (r < 20)) ⊎ StoppedAt text n from budget r

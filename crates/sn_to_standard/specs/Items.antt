@@ -1,15 +1,33 @@
 -- What the workers of the reader promise each other: a number, a run, a break at a place of the text.
 -- Assumes nothing.
-use Rattle.std.specs.Prelude.{ℕ, suc, ◌≤◌, ◌<◌, ◌≡◌, Bool, false, cond, List, [], ◌∷◌, ◌++◌, eqb, length, drop}
+use Rattle.std.specs.Prelude.{ℕ, ◌+◌, ◌≤◌, ◌<◌, ◌≡◌, Bool, false, cond, ◌||◌, List, [], ◌∷◌, ◌++◌, leb, eqb, length, drop}
 use Rattle.number.specs.Digits.{digits, is_digit}
 use Rattle.rules.specs.Bytes.{bytes}
+use Rattle.rules.specs.Chart.{Token, token, len}
+use Rattle.rules.specs.Slices.{total}
 use Rattle.rules.specs.Reduced.{run, gap}
 use Rattle.rules.specs.Texts.{word}
-use Rattle.sn_to_standard.specs.Reader.{words}
+use Rattle.sn_to_standard.specs.Reader.{words, Reading, outside, inside, expect_run, after_run}
+use Rattle.sn_to_standard.specs.Converted.{one_class, gap_behind, with_gaps, undecided_behind, undecided}
 use Rattle.sn_to_standard.specs.Laws.{Run}
-use Rattle.sn_to_standard.specs.Descents.{follow_stop, expect_stop}
 use Rattle.sn_to_standard.specs.declared.item.Number.{Number}
 use Rattle.sn_to_standard.specs.declared.item.Item.{Item}
+
+-- the text's number, 18, 19 or 0, by what is read behind m measures, the last of which have class c (0 at the start), and perhaps an undecided gap
+abbrev pub rest_no : ℕ → ℕ → Bool → Reading → ℕ
+rest_no c m u outside = 18
+rest_no c m u (inside ts) =
+    cond (leb (m + (total (gap_behind one_class (token c 1 false) ts) + total (with_gaps ts))) 1048576)
+    (cond (u || (undecided_behind (token c 1 false) ts || undecided ts)) 19 0)
+    18
+
+-- 18, whatever was read before
+abbrev pub Fails : Reading → Type 0
+Fails r = (c m : ℕ) (u : Bool) → rest_no c m u r ≡ 18
+
+-- m measures, the gap between class c and the token t, and t
+abbrev pub more_measures : ℕ → ℕ → Token → ℕ
+more_measures c m t = m + (total (gap_behind one_class (token c 1 false) (t ∷ [])) + len t)
 
 -- a place of a text, its end included
 pub record Within (text : List ℕ) (at : ℕ) : Type 0 where
@@ -37,15 +55,7 @@ pub record NumberRead (text : List ℕ) (at : ℕ) (r : Number) : Type 0 where
 abbrev pub mark_class : ℕ → ℕ
 mark_class b = cond (eqb b 126) 2 (cond (eqb b 92) 3 (cond (eqb b 61) 4 1))
 
--- the first word is no run of at most 1,048,576 measures: a descent that reads it fails
-abbrev pub NoRun : List ℕ → Type 0
-NoRun xs = (k at c m : ℕ) (u : Bool) → expect_stop (suc k) (words xs) at c m u ≡ 18
-
--- after a run, neither a run nor a break of at most 1,048,576 measures with a word after it
-abbrev pub NoBreak : List ℕ → Type 0
-NoBreak xs = (k at c m : ℕ) (u : Bool) → follow_stop (expect_stop k) (words xs) at c m u ≡ 18
-
--- read_run: a run, with the place after it; the length is 0 where there is none, or one of more than 1,048,576 measures
+-- read_run: a run, with its place behind; the length is 0 where there is none, or one of more than 1,048,576 measures
 pub record SomeRun (text : List ℕ) (at : ℕ) (r : Item) : Type 0 where
   pub run_of : Run r.class r.length
   pub written : drop at text ≡ word (run r.class r.length false) ++ drop r.next text
@@ -55,17 +65,17 @@ pub record SomeRun (text : List ℕ) (at : ℕ) (r : Item) : Type 0 where
 
 pub record RunRead (text : List ℕ) (at : ℕ) (r : Item) : Type 0 where
   pub most : r.length ≤ 1048576
-  pub none : r.length ≡ 0 → NoRun (drop at text)
+  pub none : r.length ≡ 0 → Fails (expect_run (words (drop at text)))
   pub some : 1 ≤ r.length → SomeRun text at r
 
--- read_break: a break whose "(" stands before the place, and the space after it; the value is 0 where there are none
-pub record SomeBreak (text : List ℕ) (at : ℕ) (r : Number) : Type 0 where
-  pub long : 2 ≤ r.value
-  pub written : bytes "(" ++ drop at text ≡ word (gap r.value) ++ (bytes " " ++ drop r.next text)
+-- read_break: a break whose "(" stands before the place, and the space behind it; the length is 0 where there are none
+pub record SomeBreak (text : List ℕ) (at : ℕ) (r : Item) : Type 0 where
+  pub long : 2 ≤ r.length
+  pub written : bytes "(" ++ drop at text ≡ word (gap r.length) ++ (bytes " " ++ drop r.next text)
   pub within : r.next ≤ length text
   pub further : at < r.next
 
-pub record BreakRead (text : List ℕ) (at : ℕ) (r : Number) : Type 0 where
-  pub most : r.value ≤ 1048576
-  pub none : r.value ≡ 0 → NoBreak (bytes "(" ++ drop at text)
-  pub some : 1 ≤ r.value → SomeBreak text at r
+pub record BreakRead (text : List ℕ) (at : ℕ) (r : Item) : Type 0 where
+  pub most : r.length ≤ 1048576
+  pub none : r.length ≡ 0 → Fails (after_run (words (bytes "(" ++ drop at text)))
+  pub some : 1 ≤ r.length → SomeBreak text at r

@@ -2,7 +2,8 @@
 -- and undecided is answered exactly when two charts with that SN text have different standard texts."
 -- Assumes nothing.
 use Rattle.std.specs.Prelude.{ℕ, ◌^◌, ◌≤◌, ◌<◌, ◌≡◌, false, ◌↔◌, ◌⊎◌, ◌≢◌, List, [], ◌∷◌, map, length, get_or}
-use Rattle.number.specs.Questions.{first_no}
+use Rattle.number.specs.Questions.{first_no, filled}
+use Rattle.number.specs.declared.Written.{Written}
 use Rattle.rules.specs.Chart.{Token, token, classes, active}
 use Rattle.rules.specs.Reduced.{gap, item}
 use Rattle.rules.specs.declared.Kind.TheVariants.{Sn as sn, Standard as standard}
@@ -11,6 +12,7 @@ use Rattle.rules.specs.declared.BreakdownMode.TheVariants as Mode
 use Rattle.rules.specs.declared.StreamBreakdownLevel.TheVariants as Level
 use Rattle.sn_to_standard.specs.Reader.{inside, reading}
 use Rattle.sn_to_standard.specs.Converted.{within_rules, decided, converted}
+use Rattle.sn_to_standard.specs.Promises.{SnToStandard}
 
 abbrev pub sn_text : List ℕ → List ℕ
 sn_text m = text (sn Mode.Detailed) m
@@ -54,6 +56,14 @@ pub record Converts (t : List ℕ) : Type 0 where
   -- undecided exactly when two charts differ
   pub two : ¬ (Passes19 t) ↔ TwoCharts t
 
+-- what holds of a call for the text t that keeps its promise
+pub record Answers (t old new : List ℕ) (r : Written) : Type 0 where
+  -- accepted: some chart has t, and what is written is the standard text of each one that has
+  pub some : r.refused ≡ 0 → SomeChart t
+  pub right : r.refused ≡ 0 → (m : List ℕ) → sn_text m ≡ t → (r.length ≡ length (standard_text m)) × (new ≡ filled old (standard_text m))
+  -- undecided is answered exactly when two charts differ
+  pub exactly : Passes18 t → (r.refused ≡ 19) ↔ TwoCharts t
+
 -- a run: class 1 to 4, a length from 1
 pub record Run (c n : ℕ) : Type 0 where
   pub class-least : 1 ≤ c
@@ -83,3 +93,4 @@ pub record SnToStandardLaws : Type 0 where
   pub exact : ReadsExactly
   pub converts : (t : List ℕ) → Passes18 t → Converts t
   pub own : (m : List ℕ) → OwnText m
+  pub answers : (t old new : List ℕ) (r : Written) → SnToStandard t old new r → Answers t old new r

@@ -2,6 +2,6 @@ pub mod Reader
 pub mod Converted
 pub mod Promises
 pub mod Laws
-pub mod Descents
 pub mod Items
+pub mod Descents
 pub mod Copied

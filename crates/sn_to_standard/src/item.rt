@@ -3,14 +3,14 @@ ghost use Rattle.std.specs.Prelude.{◌≡◌};
 ghost use Rattle.number.specs.Digits.{is_digit};
 ghost use Rattle.sn_to_standard.specs.Items.{Within, NumberRead, RunRead, BreakRead, mark_class};
 
-// A number of 1 to 1,048,576 and the place after it. The value is 0 where there is no such number.
+// A number of 1 to 1,048,576 and the place behind its digits. The value is 0 where there is no such number.
 #[derive(Drop)]
 pub struct Number {
     pub value: u32,
     pub next: usize,
 }
 
-// A run and the place after it. The length is 0 where there is none, or one of more than 1,048,576.
+// A run or a break and the place behind it, a break's space included. The length is 0 where there is none, or one of more than 1,048,576.
 #[derive(Drop)]
 pub struct Item {
     pub class: u8,
@@ -113,27 +113,28 @@ pub fn read_run(text: &[u8], at: usize) -> Item
     }
 }
 
-// The number of the break whose opening parenthesis stands before a place, and the place after its space. The value is 0 where there is no such break.
-pub fn read_break(text: &[u8], at: usize) -> Number
+// The break behind its opening parenthesis, and the one space behind it.
+pub fn read_break(text: &[u8], at: usize) -> Item
     requires { Within text.now at }
     ensures { BreakRead text.now at result }
 {
     let number = read_number(text, at);
     if number.value < 2 {
-        return Number { value: 0, next: at };
+        return no_item(at);
     }
     let end = number.next;
     if text.len() - end < 2 {
-        return Number { value: 0, next: at };
+        return no_item(at);
     }
     if text[end] != b')' {
-        return Number { value: 0, next: at };
+        return no_item(at);
     }
     if text[end + 1] != b' ' {
-        return Number { value: 0, next: at };
+        return no_item(at);
     }
-    Number {
-        value: number.value,
+    Item {
+        class: 0,
+        length: number.value,
         next: end + 2,
     }
 }

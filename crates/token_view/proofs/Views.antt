@@ -36,6 +36,11 @@ module _ (m : List ℕ) where
   pub few : length (admitted m) ≤ 1048576
   few = split (leb (length m) 1048576) (λ e. rw e (leb-true _ _ e)) (λ e. rw e (omega arith))
 
+-- a step past the end says ended and leaves an empty view
+pub past_end : {said : ViewToken} {next : List ℕ} → Step [] said next → (said ≡ record { ended = true; class = 0; length = 0 }) × (next ≡ [])
+unfolding step_at
+past_end s = (s.token, s.left)
+
 runs-few : (c n : ℕ) (cs : List ℕ) → length (runs_from c n cs) ≤ suc (length cs)
 runs-few c n [] = omega arith
 runs-few c n (d ∷ cs) = split (eqb c d) (λ e. rw e (omega (arith, runs-few c (suc n) cs))) (λ e. rw e (omega (arith, runs-few d 1 cs)))

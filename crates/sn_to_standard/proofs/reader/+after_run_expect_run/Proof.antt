@@ -1,15 +1,16 @@
 -- `sn_to_standard::reader::after_run` and `expect_run`, which call each other, meet their contracts: each call stands further on in the text.
 -- Assumes nothing.
 use Prim.Native.Nat.{ℕ, ◌+◌, ◌-◌, ◌<◌}
-use mathlib.Core.Path.{sym, ◌∙◌}
+use mathlib.Core.Path.{refl, sym, ◌∙◌}
+use mathlib.Core.Logic.{inl, inr}
 use native.Mathlib.Omega.{arith}
 use lib.ListN.{length}
 use borrow.Author.Tests.{not-true, not-false}
 use borrow.Fn.Kinds.{In}
 use borrow.Fn.PlainCycle.{Measures, is, falls, and}
 use Rattle.sn_to_standard.specs.Items.{SomeRun, SomeBreak}
-use Rattle.sn_to_standard.proofs.Descents.{spent, no_run, run-many, run-goes, ended, no-space, run-next, Opened, opened, room}
-use Rattle.sn_to_standard.proofs.Descents.{break-none, break-many, break-goes}
+use Rattle.sn_to_standard.proofs.Descents.{run-number, run-many, ended, no-space, run-next, Opened, opened, room}
+use Rattle.sn_to_standard.proofs.Descents.{break-none, break-number, break-many, passed_on}
 use Rattle.sn_to_standard.proofs.reader.after_run.Reads as after_run
 use Rattle.sn_to_standard.proofs.reader.after_run.Kinds as after-run-kinds
 use Rattle.sn_to_standard.proofs.reader.+after_run_expect_run.Lts-after_run as after-run-lts
@@ -63,16 +64,16 @@ module _ (t : ℕ) where
   )
 
   after-run-returns : after-run-lts.Need-returns after-run-calls after-run-at after_run.Post
-  after-run-returns c = ended c.before.before.before.requires.1 _ _ c.before.if1.true (rw c.if2.true)
+  after-run-returns c = inl (ended c.before.before.before.requires.1 _ c.before.if1.true ∙ rw c.if2.true, omega arith)
 
   after-run-returns-2 : after-run-lts.Need-returns-2 after-run-calls after-run-at after_run.Post
-  after-run-returns-2 c = ended c.before.before.before.requires.1 _ _ c.before.if1.true (rw c.if2.false)
+  after-run-returns-2 c = inl (ended c.before.before.before.requires.1 _ c.before.if1.true ∙ rw c.if2.false, omega arith)
 
   after-run-shared-slice-read-if3 : after-run-lts.Need-shared-slice-read-if3 after-run-calls after-run-at after_run.Post
   after-run-shared-slice-read-if3 c = omega arith
 
   after-run-returns-3 : after-run-lts.Need-returns-3 after-run-calls after-run-at after_run.Post
-  after-run-returns-3 c = let l = c.before.before in no-space l.before.before.requires.1 l.if1.false c.if3.true _ _
+  after-run-returns-3 c = let l = c.before.before in inl (no-space l.before.before.requires.1 _ l.if1.false c.if3.true, omega arith)
 
   after-run-add-opens-at : after-run-lts.Need-overflow-add-opens-at after-run-calls after-run-at after_run.Post
   after-run-add-opens-at c = omega arith
@@ -90,17 +91,18 @@ module _ (t : ℕ) where
   after-run-returns-4 c =
       let o = c.before.before in
       let l = o.before.before.before in
-      run-next l.before.before.requires.1 l.if1.false o.before.if3.false (sym o.Opens-at.ensures ∙ not-true _ c.before.if4.true)
-      _ _ c.expect-run.ensures
+      let e = run-next l.before.before.requires.1 _ l.if1.false o.before.if3.false (sym o.Opens-at.ensures ∙ not-true _ c.before.if4.true) in
+      passed_on e (omega arith) c.expect-run.ensures
 
   -- a break begins
   opening : (c : after-run-lts.Else4 after-run-calls after-run-at after_run.Post)
       → let a = c.before.before.before.before.before.before.args in
-      Opened a.text.now a.at
+      Opened a.text.now a.at a.class a.measures
   opening c =
       let o = c.before in
       let l = o.before.before.before in
-      opened l.before.before.requires.1 l.if1.false o.before.if3.false (sym o.Opens-at.ensures ∙ not-false _ c.if4.false)
+      opened l.before.before.requires.1 l.before.before.args.undecided l.if1.false o.before.if3.false
+      (sym o.Opens-at.ensures ∙ not-false _ c.if4.false)
 
   after-run-add-read-break : after-run-lts.Need-overflow-add-read-break after-run-calls after-run-at after_run.Post
   after-run-add-read-break c = omega arith
@@ -109,7 +111,7 @@ module _ (t : ℕ) where
   after-run-read-break-requires c κs = omega (arith, room (opening c))
 
   after-run-returns-5 : after-run-lts.Need-returns-5 after-run-calls after-run-at after_run.Post
-  after-run-returns-5 c = let k = c.before.before in break-none (opening k.before) _ _ _ _ k.read-break.ensures c.if5.true
+  after-run-returns-5 c = let k = c.before.before in inl (break-none (opening k.before) _ k.read-break.ensures c.if5.true, omega arith)
 
   -- a break was found
   break-found : (c : after-run-lts.Else5 after-run-calls after-run-at after_run.Post)
@@ -124,7 +126,7 @@ module _ (t : ℕ) where
   after-run-returns-6 : after-run-lts.Need-returns-6 after-run-calls after-run-at after_run.Post
   after-run-returns-6 c =
       let f = c.before.before in
-      break-many (opening f.before.before.before) _ _ _ _ (break-found f) c.if6.true
+      inl (break-many (opening f.before.before.before) _ (break-found f) c.if6.true, omega arith)
 
   after-run-expect-run-requires-2 : after-run-lts.Need-expect-run-requires-2 after-run-calls after-run-at after_run.Post
   after-run-expect-run-requires-2 c κs = omega (arith, break-found c.before.before)
@@ -132,19 +134,33 @@ module _ (t : ℕ) where
   after-run-returns-7 : after-run-lts.Need-returns-7 after-run-calls after-run-at after_run.Post
   after-run-returns-7 c =
       let f = c.before.before.before in
-      break-goes (opening f.before.before.before) _ _ _ _ (break-found f) c.before.if6.false c.expect-run2.ensures
+      let b = break-found f in
+      passed_on (break-number (opening f.before.before.before) _ b) (omega (arith, b.further)) c.expect-run2.ensures
 
   expect-run-pack-requires : expect-run-lts.Need-pack-requires expect-run-calls expect-run-at expect-run.Post
   expect-run-pack-requires c κs = omega arith
 
   expect-run-returns : expect-run-lts.Need-returns expect-run-calls expect-run-at expect-run.Post
-  expect-run-returns c = c.pack.ensures ∙ spent _ _ _ _ _ _ c.before.if1.true
+  expect-run-returns c =
+      let s = c.before.before.before in
+      inr
+      (record {
+        at = s.args.at;
+        class = s.args.class;
+        measures = s.args.measures;
+        undecided = s.args.undecided;
+        place = c.pack.ensures;
+        stands = s.requires.1;
+        number = refl;
+        least = omega arith;
+        further = λ h. absurd (omega (arith, c.before.if1.true));
+      })
 
   expect-run-read-run-requires : expect-run-lts.Need-read-run-requires expect-run-calls expect-run-at expect-run.Post
   expect-run-read-run-requires c κs = omega arith
 
   expect-run-returns-2 : expect-run-lts.Need-returns-2 expect-run-calls expect-run-at expect-run.Post
-  expect-run-returns-2 c = no_run c.before.before.read-run.ensures c.if2.true _ _ _ _ c.before.before.before.if1.false
+  expect-run-returns-2 c = inl (c.before.before.read-run.ensures.none c.if2.true _ _ _, omega arith)
 
   -- a run was found
   run-found : (c : expect-run-lts.Else2 expect-run-calls expect-run-at expect-run.Post)
@@ -159,8 +175,8 @@ module _ (t : ℕ) where
   expect-run-returns-3 : expect-run-lts.Need-returns-3 expect-run-calls expect-run-at expect-run.Post
   expect-run-returns-3 c =
       let b = c.before in
-      let k = b.before.before.before.before in
-      run-many k.before.before.requires.1 _ (run-found b.before) b.measures-with.ensures _ k.if1.false c.if3.true
+      let s = b.before.before.before.before.before.before in
+      inl (run-many s.requires.1 _ (run-found b.before) b.measures-with.ensures c.if3.true, omega arith)
 
   expect-run-undecided-with-requires : expect-run-lts.Need-undecided-with-requires expect-run-calls expect-run-at expect-run.Post
   expect-run-undecided-with-requires c κs = omega (arith, run-found c.before.before)
@@ -175,9 +191,9 @@ module _ (t : ℕ) where
   expect-run-returns-4 c =
       let d = c.before in
       let b = d.before.before in
-      let k = b.before.before.before.before in
-      run-goes k.before.before.requires.1 _ (run-found b.before) b.measures-with.ensures _ k.if1.false
-      d.before.if3.false d.undecided-with.ensures c.after_run.ensures
+      let s = b.before.before.before.before.before.before in
+      let q = run-found b.before in
+      passed_on (run-number s.requires.1 _ q b.measures-with.ensures d.undecided-with.ensures) q.further c.after_run.ensures
 
 pub +after-run-expect-run-spec : {M : Type 1} → statement M
 +after-run-expect-run-spec =

@@ -5,10 +5,9 @@ use mathlib.Core.Path.{◌≡◌, sym}
 use native.Mathlib.Omega.{arith}
 use lib.ListN.{length}
 use Rattle.sn_to_standard.specs.Promises.{text_no}
-use Rattle.sn_to_standard.specs.Descents.{StandsIn}
+use Rattle.sn_to_standard.specs.Descents.{StandsIn, expect_no}
 use Rattle.sn_to_standard.proofs.Laws.{long-fails}
-use Rattle.sn_to_standard.proofs.DescentAnswers.{expect_no}
-use Rattle.sn_to_standard.proofs.Descents.{Unpacked, answered, whole, empty-no}
+use Rattle.sn_to_standard.proofs.Descents.{Unpacked, told, unpacked, whole, empty-no}
 use Rattle.sn_to_standard.proofs.reader.text_no.Statement.{statement}
 use Rattle.sn_to_standard.proofs.reader.text_no.Tie as tie
 
@@ -22,9 +21,6 @@ decreases-loop text at₀ class₀ measures₀ undecided₀ at class measures un
 returns : tie.Need-returns invariant-loop decreases-loop
 returns c = empty-no _ c.if1.true
 
-cast-result : tie.Need-overflow-cast-result invariant-loop decreases-loop
-cast-result c = omega arith
-
 returns-2 : tie.Need-returns-2 invariant-loop decreases-loop
 returns-2 c = sym (long-fails _ c.if2.true)
 
@@ -35,11 +31,11 @@ loop-holds c =
 expect-run-requires : tie.Need-expect-run-requires invariant-loop decreases-loop
 expect-run-requires c κs = omega arith
 
-cast-result-2 : tie.Need-overflow-cast-result-2 invariant-loop decreases-loop
-cast-result-2 c = omega arith
+cast-result : tie.Need-overflow-cast-result invariant-loop decreases-loop
+cast-result c = omega arith
 
 returns-3 : tie.Need-returns-3 invariant-loop decreases-loop
-returns-3 c = let i = c.before.before.loop.invariant in (answered i.0 _ i.1 c.before.expect-run.ensures).0 c.if3.true
+returns-3 c = told c.before.before.loop.invariant.1 c.before.expect-run.ensures c.if3.true
 
 cast-class : tie.Need-overflow-cast-class invariant-loop decreases-loop
 cast-class c = omega arith
@@ -52,7 +48,7 @@ stopped : (c : tie.Else3 invariant-loop decreases-loop)
     → let l = c.before.before in
     let t = l.before.before.before.before.args.text.now in
     Unpacked t (text_no t) l.loop.at c.before.expect-run.result
-stopped c = let i = c.before.before.loop.invariant in (answered i.0 _ i.1 c.before.expect-run.ensures).1 c.if3.false
+stopped c = unpacked c.before.before.loop.invariant.1 c.before.expect-run.ensures c.if3.false
 
 loop-less : tie.Need-loop-smaller invariant-loop decreases-loop
 loop-less c = let p = stopped c in omega (arith, p.further, p.stands.within)
@@ -63,5 +59,4 @@ loop-again c = ((stopped c).stands, (stopped c).number)
 pub text-no-spec : {M : Type 1} → statement M
 text-no-spec =
     tie.close
-    (tie.spec invariant-loop decreases-loop returns cast-result returns-2 loop-holds expect-run-requires cast-result-2 returns-3 cast-class cast-measures
-    loop-less loop-again)
+    (tie.spec invariant-loop decreases-loop returns returns-2 loop-holds expect-run-requires cast-result returns-3 cast-class cast-measures loop-less loop-again)
