@@ -54,16 +54,16 @@ class_back (suc (suc zero)) = Run20
 class_back (suc (suc (suc zero))) = Run24
 class_back (suc (suc (suc (suc n)))) = Run32
 
-class_back : (r : RunDensity) → class_back (class_number r) ≡ r
+class_back_lem : (r : RunDensity) → class_back (class_number r) ≡ r
 unfolding class_back
-class_back Break = refl
-class_back Run16 = refl
-class_back Run20 = refl
-class_back Run24 = refl
-class_back Run32 = refl
+class_back_lem Break = refl
+class_back_lem Run16 = refl
+class_back_lem Run20 = refl
+class_back_lem Run24 = refl
+class_back_lem Run32 = refl
 
-one_class : (r s : RunDensity) → class_number r ≡ class_number s → r ≡ s
-one_class r s e = sym (class_back r) ∙ ap class_back e ∙ class_back s
+one_class_lem : (r s : RunDensity) → class_number r ≡ class_number s → r ≡ s
+one_class_lem r s e = sym (class_back_lem r) ∙ ap class_back e ∙ class_back_lem s
 
 pair_fits : (first second : List ℕ) (width : ℕ) → length (pair_choice first second width) ≤ width
 pair_fits first second width =
@@ -118,7 +118,7 @@ all-accepted =
           (s.token ∙ ap (step_at 0) e, s.left ∙ ap after_step e);
       segment_at = λ k m h. kept-segment (first_no (in_domain m ∷ [])) _ h;
       sheet = λ input r p. rw p.answer (take-append_seam (sheet_bytes input) _);
-      class = λ d r s p q. one_class r s (p ∙ sym q);
+      class = λ d r s p q. one_class_lem r s (p ∙ sym q);
       active_range = active-part;
       pair = pair_fits;
     }

@@ -28,7 +28,7 @@ use Rattle.sheet_lines.specs.Sheet.{text_lines, sheet_no, sheet_kinds, chart_of,
 use Rattle.sheet_lines.specs.declared.Sheet.{Sheet}
 use Rattle.counts_line.proofs.Lines.{counts-line}
 use Rattle.acceptance.specs.SecondHalf.{nth, KindAt, after_line, line_at, TextWritten, single, three, pass, label, converted, sheet, SecondHalf}
-use Rattle.acceptance.proofs.Written.{marked-off, nth-text, after_line, line-text, after-name}
+use Rattle.acceptance.proofs.Written.{marked-off, nth-text, after_line_lem, line-text, after-name}
 
 -- several texts end to end, refused by the number q or not
 several : (q : ℕ) (ks : List Kind) (i : ℕ) (k : Kind) (m old new ns zs : List ℕ) → KindAt ks i k → q ≡ 0 → ns ≡ accepted q (lengths_of ks m) zs
@@ -70,7 +70,7 @@ printed-text : (i : ℕ) (k : Kind) (input : List ℕ) (r : Sheet) → KindAt sh
 printed-text i k input r h p e =
     let m = chart_of input in
     ap (λ (l : List ℕ). line_at i (after_line l)) (after-name input r p e)
-    ∙ ap (line_at i) (after_line (text_lines sheet_kinds m) (counts-line 0 (counts (classes m))))
+    ∙ ap (line_at i) (after_line_lem (text_lines sheet_kinds m) (counts-line 0 (counts (classes m))))
     ∙ line-text sheet_kinds i k m h
 
 pub written-text : {k : Kind} {m x : List ℕ} → TextWritten k m x → x ≡ text k m

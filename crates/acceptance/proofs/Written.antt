@@ -38,17 +38,17 @@ pub first-line : {xs : List ℕ} (rest : List ℕ) → OneLine xs → first_line
 first-line rest none = refl
 first-line rest (◌&◌ {x = x} h hs) = rw h (ap {B = List ℕ} (λ l. x ∷ l) (first-line rest hs))
 
-pub after_line : {xs : List ℕ} (rest : List ℕ) → OneLine xs → after_line (line xs ++ rest) ≡ rest
-after_line rest none = refl
-after_line rest (h & hs) = rw h (after_line rest hs)
+pub after_line_lem : {xs : List ℕ} (rest : List ℕ) → OneLine xs → after_line (line xs ++ rest) ≡ rest
+after_line_lem rest none = refl
+after_line_lem rest (h & hs) = rw h (after_line_lem rest hs)
 
 pub line-text : (ks : List Kind) (i : ℕ) (k : Kind) (m : List ℕ) → KindAt ks i k → line_at i (text_lines ks m) ≡ text k m
 line-text [] i k m h = absurd h
 line-text (k ∷ ks) zero k' m h = first-line (text_lines ks m) (text-line k m) ∙ ap (λ (j : Kind). text j m) h
-line-text (k ∷ ks) (suc i) k' m h = rw (after_line (text_lines ks m) (text-line k m)) (line-text ks i k' m h)
+line-text (k ∷ ks) (suc i) k' m h = rw (after_line_lem (text_lines ks m) (text-line k m)) (line-text ks i k' m h)
 
 -- what `sheet` prints behind the name
 pub after-name : (input : List ℕ) (r : Sheet) → Printed input r → sheet_no input ≡ 0
     → after_line (take r.length r.bytes) ≡ line (counts_line (counts (classes (chart_of input)))) ++ text_lines sheet_kinds (chart_of input)
 after-name input r p e =
-    ap after_line (all-accepted.sheet input r p ∙ sheet-lines input e) ∙ after_line _ (one-line-name input e)
+    ap after_line (all-accepted.sheet input r p ∙ sheet-lines input e) ∙ after_line_lem _ (one-line-name input e)

@@ -17,7 +17,7 @@ use Rattle.rules.specs.declared.Kind.TheVariants.{Standard as standard}
 use Rattle.rules.specs.Texts.{text}
 use Rattle.rules.specs.Demand.{Stream, SamePlaces, SameStreams}
 use Rattle.rules.specs.declared.StreamBreakdownLevel.TheVariants as Level
-use Rattle.rules.proofs.Bytes.{bytes_same, same_bytes}
+use Rattle.rules.proofs.Bytes.{bytes_same, same_bytes_lem}
 use Rattle.rules.proofs.Steps.{class-0, active-part}
 use Rattle.rules.proofs.Places.{no-active}
 use Rattle.rules.proofs.Demand.{exactly, same_length, same_text}
@@ -103,7 +103,7 @@ alike a b x y r ex ey h =
     let eb : classes y ≡ active (classes b) = ap classes ey ∙ active-part b in
     both_ways r _
     (λ t. rw (tell.1 (inr (rw (ea, eb) at (h.0 t)))) (bytes_same (text (standard Level.Detailed) b)))
-    (λ t. h.1 (rw (ea, eb) (in-active _ _ (tell.0 (same_bytes _ _ t)))))
+    (λ t. h.1 (rw (ea, eb) (in-active _ _ (tell.0 (same_bytes_lem _ _ t)))))
 
 -- ---- charts of equal classes
 

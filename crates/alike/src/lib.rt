@@ -1,4 +1,6 @@
 // Alike: do two charts have the same standard detailed text?
+#![tactic(auto)]
+
 ghost use Rattle.std.specs.Prelude.{◌≡◌, true, ◌↔◌};
 ghost use Rattle.rules.specs.Chart.{classes};
 ghost use Rattle.rules.specs.Demand.{SamePlaces};

@@ -1,4 +1,6 @@
 // The calls that write one text of a chart, or three end to end.
+#![tactic(auto)]
+
 pub mod single;
 pub mod text;
 pub mod three;

@@ -1,5 +1,7 @@
 // Prints a line for each chart of a list: the counts by their own call and by the pass, each behind the refusal's number, and the refusal's number and
 // the length by `board_counts`. Where that accepts, the line for boards follows.
+#![tactic(auto)]
+
 mod answers;
 
 use answers::print_answers;

@@ -1,4 +1,6 @@
 // Counts of a chart, and the share of its stream measures.
+#![tactic(auto)]
+
 pub mod share;
 
 ghost use Rattle.std.specs.Prelude.{◌≡◌, cond, ltb, ◌+◌, ◌-◌, ◌≤◌, ◌<◌, ◌^◌};

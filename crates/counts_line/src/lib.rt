@@ -1,4 +1,6 @@
 // The counts line: its numbers at a least width, parted by one space. Each part is put at a place and answers the next place.
+#![tactic(auto)]
+
 ghost use Rattle.std.specs.Prelude.{◌≤◌, ◌≡◌, ◌++◌};
 ghost use Rattle.number.specs.Digits.{padded};
 ghost use Rattle.number.specs.Place.{Room, Wrote};

@@ -1,4 +1,6 @@
 // The standard text that a label of a given width shows.
+#![tactic(auto)]
+
 ghost use Rattle.std.specs.Prelude.{◌≡◌};
 ghost use Rattle.rules.specs.Calls.{label_choice};
 ghost use Rattle.measures.specs.Domain.{Domain};

@@ -1,5 +1,7 @@
 // Lends slices that are exactly full, one short and longer, and prints for each what the call answers and what the whole
 // slice holds then. Text slices hold `#` beforehand, token slices 9.
+#![tactic(auto)]
+
 mod call;
 mod line;
 mod pass;

@@ -1,4 +1,6 @@
 // What is read off a chart's measures.
+#![tactic(auto)]
+
 pub mod active;
 pub mod class;
 pub mod tokens;

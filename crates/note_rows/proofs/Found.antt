@@ -25,8 +25,8 @@ pub record LineAt (n : ℕ) (text : List ℕ) (at : ℕ) (l : List ℕ) : Type 0
   pub within : at + (n + 1) ≤ length text
   pub lines : lines_of (drop at text) ≡ line l (lines_of (drop (at + (n + 1)) text))
 
-line_at : (n : ℕ) (text : List ℕ) (at : ℕ) {l : List ℕ} {ls : Lines} → lines_of (drop at text) ≡ line l ls → length l ≡ n → LineAt n text at l
-line_at n text at {l} {ls} e h =
+line_at_lem : (n : ℕ) (text : List ℕ) (at : ℕ) {l : List ℕ} {ls : Lines} → lines_of (drop at text) ≡ line l ls → length l ≡ n → LineAt n text at l
+line_at_lem n text at {l} {ls} e h =
     let f = line_of n (drop at text) e h in
     let after : ls ≡ lines_of (drop (at + (n + 1)) text) = f.after ∙ rw (drop-drop (n + 1) at text) in
     record { within = omega (arith, f.within, length-drop at text); lines = e ∙ rw after }
@@ -43,7 +43,7 @@ row_in text at row end e a h = absurd (omega arith)
 row_in text at row cut e a h = absurd (omega arith)
 row_in text at row (line l ls) e a h =
     split (is_row l)
-    (λ t. record { l = l; is-row = t; adds = sym (rw t at a); there = line_at 4 text at e (row-long l t) })
+    (λ t. record { l = l; is-row = t; adds = sym (rw t at a); there = line_at_lem 4 text at e (row-long l t) })
     (λ t. absurd (omega (arith, h, rw t at a)))
 
 pub row-found : (text : List ℕ) (at row : ℕ) → row ≡ first_row (lines_of (drop at text)) → row < 2 → RowAt text at row
@@ -65,10 +65,10 @@ byte-in text at k end e a n = absurd (n (ap byte_of a))
 byte-in text at k cut e a n = absurd (n (ap byte_of a))
 byte-in text at k (line l ls) e a n =
     split (is_byte 44 l)
-    (λ t. rw (rw t at a) (line_at 1 text at (rw (the-byte 44 l t) at e) refl))
+    (λ t. rw (rw t at a) (line_at_lem 1 text at (rw (the-byte 44 l t) at e) refl))
     (λ t. split (is_byte 59 l)
     (λ u. split (is_end ls)
-    (λ v. rw (rw (t, u, v) at a) (line_at 1 text at (rw (the-byte 59 l u) at e) refl))
+    (λ v. rw (rw (t, u, v) at a) (line_at_lem 1 text at (rw (the-byte 59 l u) at e) refl))
     (λ v. absurd (n (ap byte_of (rw (t, u, v) at a)))))
     (λ u. absurd (n (ap byte_of (rw (t, u) at a)))))
 

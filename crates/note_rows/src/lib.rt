@@ -1,4 +1,6 @@
 // The note row reader: a chart's densities from its rows.
+#![tactic(auto)]
+
 mod line;
 mod measures;
 

@@ -1,7 +1,7 @@
 -- Digits can be read back, so two numbers with the same digits are the same. What is read is said with any bytes after the
 -- digits: then no law of `++` is needed.
 -- Assumes nothing.
-use Prim.Native.Nat.{ℕ, zero, suc, ◌+◌, ◌-◌, ◌*◌, ◌/◌, ◌%◌, ◌≤◌, ◌<◌}
+use Prim.Native.Nat.{ℕ, zero, suc, ◌+◌, ◌*◌, ◌/◌, ◌%◌, ◌≤◌, ◌<◌}
 use mathlib.Core.Path.{◌≡◌, refl, sym, ap, ◌∙◌}
 use mathlib.Core.Bool.{true}
 use mathlib.Core.List.{List, [], ◌∷◌, ◌++◌, append_assoc}
@@ -12,11 +12,11 @@ use Rattle.number.specs.Digits.{digits_in, digits, is_digit, value}
 use Rattle.number.proofs.Split.{split}
 use Rattle.number.proofs.Each.{none, ◌&◌, each_append, All, Some, some-append}
 
-is_digit : (d : ℕ) → d < 10 → is_digit (48 + d) ≡ true
-is_digit d h = rw (le-leb 48 (48 + d) (omega arith), le-leb (48 + d) 57 (omega arith))
+is_digit_lem : (d : ℕ) → d < 10 → is_digit (48 + d) ≡ true
+is_digit_lem d h = rw (le-leb 48 (48 + d) (omega arith), le-leb (48 + d) 57 (omega arith))
 
 value-digit : (v d w : ℕ) (xs : List ℕ) → d < 10 → 10 * v + d ≡ w → value v ((48 + d) ∷ xs) ≡ value w xs
-value-digit v d w xs h e = rw (is_digit d h) (ap (λ (u : ℕ). value u xs) (omega arith))
+value-digit v d w xs h e = rw (is_digit_lem d h) (ap (λ (u : ℕ). value u xs) (omega arith))
 
 value_in : (k n : ℕ) (xs : List ℕ) → n ≤ k → value 0 (digits_in k n ++ xs) ≡ value n xs
 value_in zero n xs h = value-digit 0 n n xs (omega arith) (omega arith)
@@ -26,11 +26,11 @@ value_in (suc k) n xs h =
     (λ e. rw (e, append_assoc) (value_in k (n / 10) ((48 + n % 10) ∷ xs) (omega arith) ∙ value-digit (n / 10) (n % 10) n xs (omega arith) (omega arith)))
 
 all_in : (k n : ℕ) → n ≤ k → All is_digit true (digits_in k n)
-all_in zero n h = is_digit n (omega arith) & none
+all_in zero n h = is_digit_lem n (omega arith) & none
 all_in (suc k) n h =
     split (ltb n 10)
-    (λ e. rw e (is_digit n (ltb-true n 10 e) & none))
-    (λ e. rw e (each_append (all_in k (n / 10) (omega arith)) (is_digit (n % 10) (omega arith) & none)))
+    (λ e. rw e (is_digit_lem n (ltb-true n 10 e) & none))
+    (λ e. rw e (each_append (all_in k (n / 10) (omega arith)) (is_digit_lem (n % 10) (omega arith) & none)))
 
 some_in : (k n : ℕ) → Some (digits_in k n)
 some_in zero n = tt

@@ -1,4 +1,6 @@
 // The number writer: a u64 in base ten.
+#![tactic(auto)]
+
 pub mod buffer;
 pub mod words;
 

@@ -1,4 +1,6 @@
 // The chart record reader.
+#![tactic(auto)]
+
 mod field;
 mod place;
 mod questions;

@@ -1,4 +1,6 @@
 // Prints, for each chart of a list, what the calls on measures answer: one line a chart.
+#![tactic(auto)]
+
 mod answers;
 
 use answers::print_answers;

@@ -1,5 +1,7 @@
 // Prints by `push_u64`, one a line: 0; for each power of ten that a u64 holds the number before it, itself and the number
 // behind it; the largest u64.
+#![tactic(auto)]
+
 use chart_list::line::{put_bytes, put_number};
 use libc::STDOUT_FILENO;
 

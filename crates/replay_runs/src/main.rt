@@ -1,4 +1,6 @@
 // Prints run symbols, one a line: each stream class, each length below, without a star and with one.
+#![tactic(auto)]
+
 use chart_list::line::put_bytes;
 use libc::STDOUT_FILENO;
 use rules::RunDensity;

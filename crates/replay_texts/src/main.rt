@@ -1,5 +1,7 @@
 // Prints, for each chart of a list: its line, the counts and the number of tokens, the six texts by the pass, Total. The
 // other calls that write these texts are run too: where one differs from the pass, a line says so.
+#![tactic(auto)]
+
 mod chart;
 mod others;
 

@@ -1,5 +1,7 @@
 // Prints, for each text of a list, what `read_note_rows` answers and what all places lent to it then hold; each held 7 before. A case is the
 // number of places in two bytes, high byte first, and the text; it stands behind its length in three bytes.
+#![tactic(auto)]
+
 use chart_list::cases::{case_at, number_of};
 use chart_list::line::{put_bytes, put_number};
 use libc::{STDIN_FILENO, STDOUT_FILENO};

@@ -21,22 +21,22 @@ use Rattle.number.proofs.Each.{Each, none, ◌&◌}
 
 -- ---- a number has at most as many digits as it counts, and fewer from 2 on
 
-digits_in : (k n : ℕ) → 1 ≤ n → length (digits_in k n) ≤ n
-digits_in zero n h = h
-digits_in (suc k) n h =
+digits_in_lem : (k n : ℕ) → 1 ≤ n → length (digits_in k n) ≤ n
+digits_in_lem zero n h = h
+digits_in_lem (suc k) n h =
     split (ltb n 10) (λ e. rw e h)
-    (λ e. let g = ltb-false n 10 e in rw (e, length-append) (omega (arith, digits_in k (n / 10) (omega arith))))
+    (λ e. let g = ltb-false n 10 e in rw (e, length-append) (omega (arith, digits_in_lem k (n / 10) (omega arith))))
 
 less-in : (k n : ℕ) → 2 ≤ n → length (digits_in k n) + 1 ≤ n
 less-in zero n h = h
 less-in (suc k) n h =
     split (ltb n 10) (λ e. rw e h)
-    (λ e. let g = ltb-false n 10 e in rw (e, length-append) (omega (arith, digits_in k (n / 10) (omega arith))))
+    (λ e. let g = ltb-false n 10 e in rw (e, length-append) (omega (arith, digits_in_lem k (n / 10) (omega arith))))
 
 module _ (n : ℕ) where
   pub digits-most : 1 ≤ n → length (digits n) ≤ n
   unfolding digits
-  digits-most h = digits_in n n h
+  digits-most h = digits_in_lem n n h
 
   digits-less : 2 ≤ n → length (digits n) + 1 ≤ n
   unfolding digits

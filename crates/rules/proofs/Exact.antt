@@ -116,17 +116,17 @@ unfolding render
 total-back zero = refl
 total-back (suc n) = rw append-nil (ap sum_of (value-digits (suc n) (bytes " Total")))
 
-pub read_back : (k : Kind) (d : List ℕ) → read_back k (text k d) ≡ reduced k (classes d)
+pub read_back_lem : (k : Kind) (d : List ℕ) → read_back k (text k d) ≡ reduced k (classes d)
 unfolding text reduced
-read_back (sn m) d = spaced-back m (sn-fine m d)
-read_back (standard Level.Detailed) d = standard-back gap (gap 1) gaps-read Level.Detailed (pieces (classes d)) (pieces-differ (classes d))
-read_back (standard Level.Partial) d = standard-back (sign_of 31) (sign dash) (signs-read 31) Level.Partial (pieces (classes d)) (pieces-differ (classes d))
-read_back (standard Level.Simple) d =
+read_back_lem (sn m) d = spaced-back m (sn-fine m d)
+read_back_lem (standard Level.Detailed) d = standard-back gap (gap 1) gaps-read Level.Detailed (pieces (classes d)) (pieces-differ (classes d))
+read_back_lem (standard Level.Partial) d = standard-back (sign_of 31) (sign dash) (signs-read 31) Level.Partial (pieces (classes d)) (pieces-differ (classes d))
+read_back_lem (standard Level.Simple) d =
     standard-back (sign_of 31) (sign dash) (signs-read 31) Level.Simple (join 1 (pieces (classes d)))
     (join-differ 1 1 0 (pieces (classes d)) (pieces-differ (classes d)))
-read_back (standard Level.Total) d = total-back (streams (classes d))
+read_back_lem (standard Level.Total) d = total-back (streams (classes d))
 
 -- two charts' texts are the same exactly when their reduced lists are
 pub exactly-when : (k : Kind) (a b : List ℕ) → (text k a ≡ text k b) ↔ (reduced k (classes a) ≡ reduced k (classes b))
 unfolding text
-exactly-when k a b = (λ e. sym (read_back k a) ∙ ap (read_back k) e ∙ read_back k b, λ e. ap (render k) e)
+exactly-when k a b = (λ e. sym (read_back_lem k a) ∙ ap (read_back k) e ∙ read_back_lem k b, λ e. ap (render k) e)

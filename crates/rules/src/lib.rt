@@ -1,4 +1,5 @@
 // The types of the answers, which the rules in specs/ speak of. No code: the rules are in specs/, the laws about them in proofs/.
+#![tactic(auto)]
 
 // Counts, in the Rust's order; behind them the measures before and after the active part.
 #[repr(C)]

@@ -18,12 +18,12 @@ use Rattle.rules.specs.declared.RunDensity.{RunDensity}
 use Rattle.rules.specs.declared.RunDensity.TheVariants.{Run32, Run24, Run20, Run16, Break}
 use Rattle.run_symbol.specs.Promises.{stream_class, RunSymbol}
 
-no_run : (c : RunDensity) → 0 ≡ class_number c → stream_class c ≡ question 5 false
-no_run Break e = refl
-no_run Run16 e = absurd (omega arith)
-no_run Run20 e = absurd (omega arith)
-no_run Run24 e = absurd (omega arith)
-no_run Run32 e = absurd (omega arith)
+no_run_lem : (c : RunDensity) → 0 ≡ class_number c → stream_class c ≡ question 5 false
+no_run_lem Break e = refl
+no_run_lem Run16 e = absurd (omega arith)
+no_run_lem Run20 e = absurd (omega arith)
+no_run_lem Run24 e = absurd (omega arith)
+no_run_lem Run32 e = absurd (omega arith)
 
 some-run : (c : RunDensity) → class_number c ≢ 0 → stream_class c ≡ question 5 true
 some-run Break n = absurd (n refl)
@@ -42,7 +42,7 @@ number-low Run32 = omega arith
 -- by the class's number k and the symbol's length l
 module _ (c : RunDensity) (k n : ℕ) (s : Bool) (old : List ℕ) (e : k ≡ class_number c) where
   pub symbol-5 : k ≡ 0 → RunSymbol c n s old old (record { refused = 5; length = 0 })
-  symbol-5 z = rw (no_run c (sym z ∙ e)) (record { answer = refl; bytes = refl })
+  symbol-5 z = rw (no_run_lem c (sym z ∙ e)) (record { answer = refl; bytes = refl })
 
   module _ (l : ℕ) (f : l ≡ length (word (run k n s))) (z : k ≢ 0) where
     pub symbol-4 : length old < l → RunSymbol c n s old old (record { refused = 4; length = 0 })

@@ -1,4 +1,6 @@
 // One run as an SN text shows it.
+#![tactic(auto)]
+
 ghost use Rattle.std.specs.Prelude.{◌≡◌};
 ghost use Rattle.rules.specs.Chart.{class_number};
 ghost use Rattle.run_symbol.specs.Promises.{RunSymbol};

@@ -28,9 +28,9 @@ at_each (suc n) t e h =
     (λ q. rw (eqb-true e n q) (eqb-true (digit n) (class_of n) both.0))
     (λ q. at_each n both.1 e (omega (arith, eqb-false e n q)))
 
-pub up_to : (d : ℕ) → d ≤ 32 → digit d ≡ class_of d
+pub up_to_lem : (d : ℕ) → d ≤ 32 → digit d ≡ class_of d
 unfolding class_of
-up_to d h = at_each 33 refl d (omega arith)
+up_to_lem d h = at_each 33 refl d (omega arith)
 
 pub above : (d : ℕ) → 32 < d → digit 32 ≡ class_of d
 above d h = rw (class-4 d (omega arith)) refl

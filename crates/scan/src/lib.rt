@@ -1,4 +1,6 @@
 // One scan over a chart's measures: its tokens and its counts.
+#![tactic(auto)]
+
 ghost use Rattle.std.specs.Prelude.{◌≡◌, cond, eqb, length, ◌+◌, ◌≤◌, ◌<◌, ◌^◌};
 ghost use Rattle.rules.specs.Chart.{class_of, tokens};
 ghost use Rattle.counts.specs.Sums.{sums_of};

@@ -1,4 +1,6 @@
 // Segments of a chart: written as records into a lent slice of them, or asked for one by one.
+#![tactic(auto)]
+
 mod steps;
 mod turns;
 

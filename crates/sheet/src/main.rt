@@ -1,4 +1,6 @@
 // Prints the sheet of the chart record on standard input. One byte more than it takes is read, so that a longer input is seen.
+#![tactic(auto)]
+
 use libc::{STDIN_FILENO, STDOUT_FILENO};
 use sheet_lines::print_sheet;
 

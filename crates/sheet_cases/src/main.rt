@@ -1,4 +1,6 @@
 // Prints what `sheet` prints for each record of a list. A record stands behind its length in three bytes, high byte first.
+#![tactic(auto)]
+
 use chart_list::cases::case_at;
 use libc::{STDIN_FILENO, STDOUT_FILENO};
 use sheet_lines::print_sheet;

@@ -1,4 +1,6 @@
 // The bytes that the program `sheet` prints for the bytes that it is given.
+#![tactic(auto)]
+
 mod chart;
 mod put;
 

@@ -24,9 +24,9 @@ drop-append (t ∷ ts) us =
 
 module _ (k : ℕ) (t : Token) (rt : class t ≢ 0) where
   -- a run follows
-  pub after_run : (ts : List Token) → first_class ts ≢ 0 → shown k (t ∷ ts) ≡ t ∷ shown k ts
-  after_run [] h = absurd (h refl)
-  after_run (u ∷ ts) h = rw (simple-run k t u ts h, drop-run t (absorb k (join_from k u ts)) rt)
+  pub after_run_lem : (ts : List Token) → first_class ts ≢ 0 → shown k (t ∷ ts) ≡ t ∷ shown k ts
+  after_run_lem [] h = absurd (h refl)
+  after_run_lem (u ∷ ts) h = rw (simple-run k t u ts h, drop-run t (absorb k (join_from k u ts)) rt)
 
   module _ (u : Token) where
     -- a break follows, and a run that joins over it

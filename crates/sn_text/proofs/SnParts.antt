@@ -32,7 +32,7 @@ use Rattle.text_buffer.specs.Words.{side}
 use Rattle.text_buffer.proofs.Bytes.{sign-one}
 use Rattle.text_buffer.proofs.Reading.{behind-low, run-behind}
 use Rattle.rules.proofs.Pairs.{none_left, slices-next}
-use Rattle.sn_text.proofs.Groups.{drop-append, after_run, after-join, after-apart, break-tokens, one-shows, short-shows, long-shows}
+use Rattle.sn_text.proofs.Groups.{drop-append, after_run_lem, after-join, after-apart, break-tokens, one-shows, short-shows, long-shows}
 use Rattle.text_buffer.proofs.Added.{added_none, added-room, added, grown-room, grown-added, step_room, step}
 use Rattle.text_buffer.specs.declared.buffer.Left.{Left}
 
@@ -111,7 +111,7 @@ module _ (k : ℕ) (t : Token) (rt : class t ≢ 0) (u : Token) (us : List Token
 
   apart-shown : (g : ℕ) → class u ≢ 0 → class u ≢ join_class k (class t) g
       → shown k (t ∷ (break_tokens g ++ (u ∷ us))) ≡ shown k (t ∷ break_tokens g) ++ shown k (u ∷ us)
-  apart-shown zero r d = after_run k t rt (u ∷ us) r ∙ rw (drop-run t [] rt)
+  apart-shown zero r d = after_run_lem k t rt (u ∷ us) r ∙ rw (drop-run t [] rt)
   apart-shown (suc g) r d =
       after-apart k t rt (token 0 (suc g) false) (u ∷ us) r
       (split (leb (suc g) k) (λ l. inr (rw (lt-ltb 0 (suc g) (omega arith), l) at d)) (λ l. inl (leb-false (suc g) k l)))

@@ -19,17 +19,17 @@ use Rattle.sn_to_standard.specs.Laws.{Run, Ordered, last, next, over}
 -- ---- tests on neighbours
 
 module _ (c n d k : ℕ) where
-  both_runs : 1 ≤ c → 1 ≤ d → both_runs (token c n false) (token d k false) ≡ true
-  both_runs g h = rw (le-leb 1 d h, le-leb 1 c g)
+  both_runs_lem : 1 ≤ c → 1 ≤ d → both_runs (token c n false) (token d k false) ≡ true
+  both_runs_lem g h = rw (le-leb 1 d h, le-leb 1 c g)
 
   pub one-class-yes : 1 ≤ c → 1 ≤ d → c ≡ d → one_class (token c n false) (token d k false) ≡ true
-  one-class-yes g h e = rw (both_runs g h, eq-eqb c d e)
+  one-class-yes g h e = rw (both_runs_lem g h, eq-eqb c d e)
 
   pub one-class-no : c ≢ d → one_class (token c n false) (token d k false) ≡ false
   one-class-no e = rw (ne_eqb c d e, and-false)
 
   pub two-classes-yes : 1 ≤ c → 1 ≤ d → c ≢ d → two_classes (token c n false) (token d k false) ≡ true
-  two-classes-yes g h e = rw (both_runs g h, ne_eqb c d e)
+  two-classes-yes g h e = rw (both_runs_lem g h, ne_eqb c d e)
 
   pub two-classes-no : 1 ≤ c → 1 ≤ d → two_classes (token c n false) (token d k false) ≡ false → c ≡ d
   two-classes-no g h e = split (eqb c d) (eqb-true c d) (λ q. absurd (false≢true (sym e ∙ two-classes-yes g h (eqb-false c d q))))
@@ -109,7 +109,7 @@ module _ (b : Bool) where
 
   gapped-next : (c n : ℕ) {us : List Token} → Run c n → Headed us → Shows (gapped us) us → Shows (gapped (token c n false ∷ us)) (token c n false ∷ us)
   gapped-next c n r (headed d k us q) (first _ _ _ t) =
-      rw (both_runs c n d k (omega arith) (omega arith))
+      rw (both_runs_lem c n d k (omega arith) (omega arith))
       (split (b || eqb c d) (λ e. rw e (first c n r (gap d k q t))) (λ e. rw e (first c n r (beside d k q (eqb-false c d (both_false b (eqb c d) e).1) t))))
 
   gapped-break : (c n k : ℕ) {ts us : List Token} → Run c n → 2 ≤ k → Headed us → Shows ts us

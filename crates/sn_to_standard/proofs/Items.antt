@@ -63,8 +63,8 @@ module _ {text : List ℕ} {at k next : ℕ} (m : Marked text at k next) {n : Nu
       let o = only-read r i.long l q in
       f rest (omega (arith, i.long, o.0)) (sym o.1))
 
-  no_run : (q : Item) → q.length ≡ 0 → ((rest : List ℕ) → 1 ≤ n.value → ¬ (drop n.next text ≡ mark k ++ rest)) → RunRead text at q
-  no_run q e f = record { most = omega arith; none = λ z. unclosed f; some = λ h. absurd (omega arith) }
+  no_run_lem : (q : Item) → q.length ≡ 0 → ((rest : List ℕ) → 1 ≤ n.value → ¬ (drop n.next text ≡ mark k ++ rest)) → RunRead text at q
+  no_run_lem q e f = record { most = omega arith; none = λ z. unclosed f; some = λ h. absurd (omega arith) }
 
   pub some-run : (end : ℕ) → drop n.next text ≡ mark k ++ drop end text → n.next ≤ end → end ≤ length text
       → RunRead text at (record { class = k; length = n.value; next = end })
@@ -95,7 +95,7 @@ module _ (text : List ℕ) (at : ℕ) where
       let e : drop at text ≡ [] = drop_of_length-le text {i = at} (omega arith) in
       let w : Within text at = record { within = omega arith } in
       let m : Marked text at 1 at = record { least = omega arith; most = omega arith; class = rw e (λ h. refl); marked = refl; order = omega arith } in
-      no_run m (stopped (starts w) (rw e tt)) q z (λ rest l. absurd (omega arith))
+      no_run_lem m (stopped (starts w) (rw e tt)) q z (λ rest l. absurd (omega arith))
 
   module _ (h : at < length text) where
     abbrev b : ℕ
@@ -118,7 +118,7 @@ module _ (text : List ℕ) (at : ℕ) where
 
       -- there is no number, or another byte behind it
       pub no-marked : (q : Item) → q.length ≡ 0 → (1 ≤ n.value → n.next < length text → get_or text n.next 0 ≢ b) → RunRead text at q
-      no-marked q z f = no_run marked-here r q z (λ rest l e. let g = begins text n.next b rest (rw mark_of at e) in f l g.within g.byte)
+      no-marked q z f = no_run_lem marked-here r q z (λ rest l e. let g = begins text n.next b rest (rw mark_of at e) in f l g.within g.byte)
 
       pub some-marked : (c : ℕ) → c ≡ mark_class b → n.next < length text → get_or text n.next 0 ≡ b
           → RunRead text at (record { class = c; length = n.value; next = n.next + 1 })

@@ -119,5 +119,5 @@ module _ {text : List ℕ} {at v i : ℕ} (g : Going text at v i) where
         let e : n ≡ value more (leading (drop (suc i) text)) = sym (number-value w) ∙ rw (added (omega arith) v refl) (front-value more (drop (suc i) text)) in
         omega (arith, value-least more (leading (drop (suc i) text))))
 
-    pub goes_on : 1 ≤ more → more ≤ 1048576 → Going text at more (i + 1)
-    goes_on l m = record { within = omega arith; most = m; none = λ e. absurd (omega arith); some = λ q. rw (add-one i) (added l v refl) }
+    pub goes_on_lem : 1 ≤ more → more ≤ 1048576 → Going text at more (i + 1)
+    goes_on_lem l m = record { within = omega arith; most = m; none = λ e. absurd (omega arith); some = λ q. rw (add-one i) (added l v refl) }

@@ -15,7 +15,7 @@ use Rattle.rules.specs.Bytes.{same_bytes}
 use Rattle.rules.specs.Chart.{Token, token}
 use Rattle.rules.specs.Reduced.{run, gap, item}
 use Rattle.rules.specs.Texts.{word}
-use Rattle.rules.proofs.Bytes.{bytes_same, same_bytes}
+use Rattle.rules.proofs.Bytes.{bytes_same, same_bytes_lem}
 use Rattle.rules.proofs.Words.{solid}
 use Rattle.sn_to_standard.specs.Reader.{words, first_class, shown, is_run, is_break}
 use Rattle.sn_to_standard.specs.Laws.{Run}
@@ -132,7 +132,7 @@ run-word w =
     (λ e. rw e (λ q.
     let b = (and-eq-true_iff (leb 1 c) (leb 1 n)).0 q in
     let r : Run c n = record { class-least = leb-true 1 c b.0; class-most = first-most w; long = leb-true 1 n b.1 } in
-    record { c = c; n = n; run_of = r; token-of = rw e; written = rw (run-item c n r) at (same_bytes w _ e) }))
+    record { c = c; n = n; run_of = r; token-of = rw e; written = rw (run-item c n r) at (same_bytes_lem w _ e) }))
     (λ e. rw e (λ q. absurd (false≢true q)))
 
 pub break-word : (w : List ℕ) → is_break (shown w) ≡ true → BreakWord w
@@ -143,5 +143,5 @@ break-word w =
     (λ e. rw e (λ q.
     let b = (and-eq-true_iff (eqb c 0) (leb 2 n)).0 q in
     let z = eqb-true c 0 b.0 in
-    record { k = n; long = leb-true 2 n b.1; token-of = rw (e, z); written = rw z at (same_bytes w _ e) }))
+    record { k = n; long = leb-true 2 n b.1; token-of = rw (e, z); written = rw z at (same_bytes_lem w _ e) }))
     (λ e. rw e (λ q. absurd (false≢true q)))

@@ -1,4 +1,6 @@
 // From SN detailed text to standard detailed text.
+#![tactic(auto)]
+
 mod copy;
 mod item;
 mod reader;

@@ -41,9 +41,9 @@ module _ (k n : ℕ) (s : Bool) (c m : ℕ) (t : Bool) where
 
 -- the same by the class of the token that follows
 module _ (k n : ℕ) (s : Bool) where
-  pub after_run : (c m : ℕ) (ts : List Token) → c ≢ 0 → after k n s (token c m false ∷ ts) ≡ after k (n + m) s ts
-  after_run zero m ts h = absurd (h refl)
-  after_run (suc c) m ts h = ap (join k) (glued k n s c m false (merged ts))
+  pub after_run_lem : (c m : ℕ) (ts : List Token) → c ≢ 0 → after k n s (token c m false ∷ ts) ≡ after k (n + m) s ts
+  after_run_lem zero m ts h = absurd (h refl)
+  after_run_lem (suc c) m ts h = ap (join k) (glued k n s c m false (merged ts))
 
   -- a gap that joins is added like a run
   pub after-over : (g : ℕ) (ts : List Token) → first_class ts ≢ 0 → g ≤ k → after k n s (token 0 g false ∷ ts) ≡ after k (n + g) true ts

@@ -27,7 +27,7 @@ use Rattle.text_buffer.specs.Parts.{PartMeasured, PartRoom, PartWritten, TokensB
 use Rattle.standard_text.specs.Filled.{done_text, done_texts, Long, TokenPlace, Filled}
 use Rattle.text_buffer.specs.declared.buffer.Left.{Left}
 use Rattle.text_buffer.proofs.Added.{added_none, added-room, added, grown-added}
-use Rattle.standard_text.proofs.Pieces.{after_run, after-over, after-apart, none_before}
+use Rattle.standard_text.proofs.Pieces.{after_run_lem, after-over, after-apart, none_before}
 use Rattle.rules.proofs.Pairs.{none_left, slices-next}
 
 -- ---- the text behind an open piece, by the token that follows
@@ -37,7 +37,7 @@ shown_text b l = strung part (map (item (gap_item b)) l)
 
 module _ (b : Bool) (k n : ℕ) (s : Bool) where
   pub run-text : (c m : ℕ) (ts : List Token) → c ≢ 0 → standard_from b k n s (token c m false ∷ ts) ≡ standard_from b k (n + m) s ts
-  run-text c m ts h = ap (shown_text b) (after_run k n s c m ts h)
+  run-text c m ts h = ap (shown_text b) (after_run_lem k n s c m ts h)
 
   module _ (g c m : ℕ) (ts : List Token) (h : c ≢ 0) where
     pub over-text : g ≤ k → standard_from b k n s (token 0 g false ∷ token c m false ∷ ts) ≡ standard_from b k (n + g) true (token c m false ∷ ts)

@@ -1,4 +1,6 @@
 // The pass: tokens, counts and six texts of a chart.
+#![tactic(auto)]
+
 ghost use Rattle.std.specs.Prelude.{◌+◌, ◌*◌, ◌^◌, ◌≤◌, ◌<◌, ◌≡◌, true};
 ghost use Rattle.text_buffer.specs.Buffer.{Ready};
 ghost use Rattle.stream_outputs.specs.Promises.{Outputs};

@@ -1,4 +1,6 @@
 // Texts in a buffer: bytes, runs and gaps, and the table of words.
+#![tactic(auto)]
+
 pub mod buffer;
 pub mod gap;
 pub mod put;

@@ -1,4 +1,6 @@
 // Token view: a struct that holds the lent measures and steps to the next token, breaks at both ends included.
+#![tactic(auto)]
+
 ghost use Rattle.std.specs.Prelude.{◌≡◌, [], ◌∷◌, drop};
 ghost use Rattle.number.specs.Questions.{first_no};
 ghost use Rattle.rules.specs.Chart.{in_domain};

@@ -3,7 +3,7 @@
 use mathlib.Core.Logic.{⊎_elim}
 use borrow.Author.Rules.{rules}
 use native.Mathlib.Omega.{arith}
-use Rattle.scan.proofs.Classes.{up_to, above}
+use Rattle.scan.proofs.Classes.{up_to_lem, above}
 use Rattle.scan.proofs.class_at.Statement.{statement}
 use Rattle.scan.proofs.class_at.Tie as tie
 
@@ -24,7 +24,7 @@ returns c =
     let d = c.before.before.args.d in
     ⊎_elim
     (λ w. rw w.1 (above d w.0.taken))
-    (λ w. rw w.1 (up_to d w.0.left))
+    (λ w. rw w.1 (up_to_lem d w.0.left))
     c.before.if1.branch
 
 pub class-at-spec : {M : Type 1} → statement M

@@ -6,7 +6,7 @@ use native.Mathlib.Omega.{arith}
 use lib.ListN.{length, get_or, drop_of_length-le}
 use lib.Seq.{drop-cons}
 use borrow.Author.Tests.{not-true, not-false}
-use Rattle.sn_to_standard.proofs.Numbers.{digit-bounds, Going, starts, stopped, by_zero, by-large, goes_on}
+use Rattle.sn_to_standard.proofs.Numbers.{digit-bounds, Going, starts, stopped, by_zero, by-large, goes_on_lem}
 use Rattle.sn_to_standard.proofs.item.read_number.Statement.{statement}
 use Rattle.sn_to_standard.proofs.item.read_number.Tie as tie
 
@@ -68,7 +68,7 @@ loop-less c = omega arith
 loop-again : tie.Need-loop-preserved invariant-loop decreases-loop
 loop-again c =
     let l = c.before.before.before.before.before in
-    goes_on l.before.loop.invariant l.loop-test.true (digit c.before.before) (omega (arith, c.before.if2.false)) c.if3.false
+    goes_on_lem l.before.loop.invariant l.loop-test.true (digit c.before.before) (omega (arith, c.before.if2.false)) c.if3.false
 
 returns-4 : tie.Need-returns-4 invariant-loop decreases-loop
 returns-4 c = stopped c.before.loop.invariant (rw (drop_of_length-le _ c.loop-test.false) tt)
