@@ -1,0 +1,13 @@
+-- `measures::active::skip` meets its contract: stretches within bounds join.
+-- Assumes nothing.
+use borrow.Author.Tests.{not-false}
+use Rattle.std.proofs.Common.{◌-◌, length, arith, rules}
+use Rattle.measures.specs.Active.{Stretch}
+use Rattle.measures.proofs.Stretch.{none, joined}
+use Rattle.measures.proofs.active.skip.Given as goal
+
+abbrev pub invariant-loop-i : goal.invariant-loop-i
+invariant-loop-i l = Stretch l.m l.from l.lo l.more l.i
+
+abbrev pub decreases-loop-i : goal.decreases-loop-i
+decreases-loop-i l = length l.m - l.i

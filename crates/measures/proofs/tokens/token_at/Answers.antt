@@ -1,0 +1,29 @@
+-- `measures::tokens::token_at` meets its contract.
+-- Assumes nothing.
+use Rattle.std.proofs.Common.{[], ⊎_elim, arith, rules, leb-false, leb-true}
+use Rattle.rules.proofs.Domain.{all-admitted, none-admitted}
+use Rattle.rules.proofs.View.{run_fits}
+use Rattle.measures.proofs.Stepping.{ended_at, token-from}
+use Rattle.measures.proofs.tokens.token_at.Goals as goal
+
+pub returns-then-m-gt1048576 : goal.returns-then-m-gt1048576
+returns-then-m-gt1048576 c =
+    let a = c.args in
+    ⊎_elim
+    (λ w. rw (none-admitted a.m.now w) (ended_at [] a.at (omega arith)))
+    (λ w. rw (all-admitted a.m.now w.0) (ended_at a.m.now a.at w.1))
+    c.then-m-gt1048576.either
+
+pub run_end-end-requires : goal.run_end-end-requires
+run_end-end-requires c = record { few = search rules; within = omega (arith, leb-false) }
+
+pub overflow_cast-result : goal.overflow_cast-result
+overflow_cast-result c =
+    let s = c in
+    omega (arith, c.run_end-end.ensures, run_fits s.args.m.now s.args.at c.class_of-class.result (omega (arith, leb-false)))
+
+pub returns : goal.returns
+returns c =
+    let s = c in
+    rw (all-admitted s.args.m.now (omega arith))
+    (token-from s.args.m.now s.args.at (omega (arith, leb-false)) _ _ c.class_of-class.ensures (omega (arith, c.run_end-end.ensures)))

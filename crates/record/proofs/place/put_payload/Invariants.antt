@@ -1,0 +1,14 @@
+-- `record::place::put_payload` meets its contract.
+-- Assumes nothing.
+use Prim.Native.Nat.{◌-◌}
+use native.Mathlib.Omega.{arith}
+use lib.ListN.{length}
+use borrow.Author.Rules.{rules}
+use Rattle.number.proofs.Place.{Putting, put-starts, put_step, put-done}
+use Rattle.record.proofs.place.put_payload.Given as goal
+
+abbrev pub invariant-loop-i : goal.invariant-loop-i
+invariant-loop-i l = Putting l.payload l.initial.densities l.at l.densities l.i
+
+abbrev pub decreases-loop-i : goal.decreases-loop-i
+decreases-loop-i l = length l.payload - l.i
