@@ -10,7 +10,7 @@ use measures::active::active_range;
 
 // What the alike call answers: the refusal's number, 0 where both charts are accepted, and whether they are alike.
 #[repr(C)]
-#[derive(Drop)]
+#[derive(Clone, Copy)]
 pub struct AlikeAnswer {
     pub refused: u32,
     pub alike: bool,

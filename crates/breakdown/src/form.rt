@@ -5,7 +5,7 @@ ghost use Rattle.breakdown.specs.Forms.{sn_form, standard_form, form_of, is_tota
 use rules::{BreakdownMode, Kind, StreamBreakdownLevel};
 
 // SN (`sn`) or standard; the longest break or gap over which runs or pieces join; in a standard text, whether gaps are shown as signs.
-#[derive(Drop)]
+#[derive(Clone, Copy)]
 pub struct Form {
     pub sn: bool,
     pub limit: u32,

@@ -89,7 +89,7 @@ pub fn length_of_measures(m: &[u32], form: Form) -> usize
 }
 
 // The tallies of the six texts.
-#[derive(Drop)]
+#[derive(Clone, Copy)]
 struct Six {
     a: Tally,
     b: Tally,
@@ -142,7 +142,7 @@ fn six_end(s: Six) -> [usize; 6]
 }
 
 // What is due: places for tokens, and the bytes of each of the six texts.
-#[derive(Drop)]
+#[derive(Clone, Copy)]
 pub struct Due {
     pub tokens: usize,
     pub lengths: [usize; 6],

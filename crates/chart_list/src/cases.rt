@@ -3,7 +3,7 @@ ghost use Rattle.std.specs.Prelude.{◌<◌, length};
 ghost use Rattle.chart_list.specs.Bounds.{CaseAt};
 
 // Where a case stands in the list: from `start` up to `end`. Where the list is cut, it is not whole, and is all that is left.
-#[derive(Drop)]
+#[derive(Clone, Copy)]
 pub struct Case {
     pub whole: bool,
     pub start: usize,

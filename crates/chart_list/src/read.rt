@@ -3,21 +3,21 @@ ghost use Rattle.io.specs.Counts.{IsPrefixLen};
 ghost use Rattle.chart_list.specs.Bounds.{Within, From, ReadChart};
 
 // A chart that was read: the place of the next line, and how many measures stand in the lent slice.
-#[derive(Drop)]
+#[derive(Clone, Copy)]
 pub struct Chart {
     pub next: usize,
     pub measures: usize,
 }
 
 // A number, and the place behind its last digit.
-#[derive(Drop)]
+#[derive(Clone, Copy)]
 struct Number {
     value: u32,
     next: usize,
 }
 
 // An item, and the place behind it.
-#[derive(Drop)]
+#[derive(Clone, Copy)]
 struct Item {
     density: u32,
     times: u32,

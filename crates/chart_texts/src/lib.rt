@@ -7,7 +7,7 @@ pub mod three;
 
 // What a call that writes three texts end to end answers: the refusal's number and each text's length.
 #[repr(C)]
-#[derive(Drop)]
+#[derive(Clone, Copy)]
 pub struct ThreeWritten {
     pub refused: u32,
     pub lengths: [usize; 3],

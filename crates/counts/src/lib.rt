@@ -14,14 +14,14 @@ use rules::StreamCounts;
 
 // What the counts call answers: the refusal's number, 0 where the chart is accepted, and the counts.
 #[repr(C)]
-#[derive(Drop)]
+#[derive(Clone, Copy)]
 pub struct CountsAnswer {
     pub refused: u32,
     pub counts: StreamCounts,
 }
 
 // What some tokens hold: measures of each class, and those of the gaps of 2 or more.
-#[derive(Drop)]
+#[derive(Clone, Copy)]
 pub struct Sums {
     pub run16: u32,
     pub run20: u32,

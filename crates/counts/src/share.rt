@@ -6,7 +6,7 @@ use crate::chart_counts;
 
 // What the share call answers: the refusal's number, 0 where the chart is accepted, and the share in parts of 10,000.
 #[repr(C)]
-#[derive(Drop)]
+#[derive(Clone, Copy)]
 pub struct ShareAnswer {
     pub refused: u32,
     pub share: u32,

@@ -14,7 +14,7 @@ pub mod level;
 
 // What label answers: the refusal's number, the level (1 to 4) and the text's length.
 #[repr(C)]
-#[derive(Drop)]
+#[derive(Clone, Copy)]
 pub struct LabelWritten {
     pub refused: u32,
     pub level: u32,

@@ -12,7 +12,7 @@ use number::{Written, push_u64};
 use rules::{BreakdownMode, RunDensity, StreamBreakdownLevel};
 use run_symbol::format_run_symbol;
 
-#[derive(Drop)]
+#[derive(Clone, Copy)]
 pub enum Call {
     Number(u64, u32),
     Symbol(RunDensity, u64),
@@ -26,7 +26,7 @@ pub enum Call {
 }
 
 // What a call answered: the refusal's number, how many numbers follow it and which, and the length of all its text.
-#[derive(Drop)]
+#[derive(Clone, Copy)]
 struct Answer {
     refused: u32,
     count: usize,

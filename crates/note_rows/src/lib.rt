@@ -14,7 +14,7 @@ use crate::measures::read_measures;
 
 // The refusal's number, 0 where the text is accepted, and the number of densities.
 #[repr(C)]
-#[derive(Drop)]
+#[derive(Clone, Copy)]
 pub struct RowsAnswer {
     pub refused: u32,
     pub measures: usize,

@@ -4,7 +4,7 @@ ghost use Rattle.note_rows.specs.NoteRows.{lines_of, one_of, row_bytes, note_byt
 ghost use Rattle.note_rows.specs.Steps.{Told, row_of, first_row, first_end};
 
 // What stands behind a measure's rows.
-#[derive(Drop)]
+#[derive(Clone, Copy)]
 pub enum Ending {
     // The line ",", which ends a measure.
     Measure,

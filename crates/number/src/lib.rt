@@ -15,7 +15,7 @@ use crate::words::store_word;
 
 // What a call that writes one text answers: the refusal's number, 0 where the call is accepted, and the text's length.
 #[repr(C)]
-#[derive(Drop)]
+#[derive(Clone, Copy)]
 pub struct Written {
     pub refused: u32,
     pub length: usize,

@@ -22,7 +22,7 @@ use token_view::{NthToken, nth_token};
 
 // The active part, by the place of its first measure in the caller's slice and its length.
 #[repr(C)]
-#[derive(Drop)]
+#[derive(Clone, Copy)]
 pub struct ActiveRange {
     pub start: usize,
     pub length: usize,

@@ -28,7 +28,7 @@ use stream_outputs::{StreamOutputs, compute_stream_outputs};
 
 // The part of one of two texts that a label shows: the beginning of the second or of the first, and its length.
 #[repr(C)]
-#[derive(Drop)]
+#[derive(Clone, Copy)]
 pub struct PairPart {
     pub second: bool,
     pub length: usize,

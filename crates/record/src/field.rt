@@ -4,7 +4,7 @@ ghost use Rattle.record.specs.Record.{fields_of};
 ghost use Rattle.record.specs.Steps.{BytePlace, first_at};
 
 // What stands at a place of a record.
-#[derive(Drop)]
+#[derive(Clone, Copy)]
 pub enum Field {
     // Nothing is left.
     End,

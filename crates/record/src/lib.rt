@@ -14,7 +14,7 @@ use crate::questions::check_fields;
 
 // The refusal's number, 0 where the record is accepted; the number of densities; the name's place in the record, and its length.
 #[repr(C)]
-#[derive(Drop)]
+#[derive(Clone, Copy)]
 pub struct RecordAnswer {
     pub refused: u32,
     pub measures: usize,

@@ -6,7 +6,7 @@ ghost use Rattle.record.specs.Steps.{checked_fields, refused_fields};
 use crate::field::{Field, field_at};
 
 // The first no to the fields of a record, 0 where there is none; the number of densities and the name's length.
-#[derive(Drop)]
+#[derive(Clone, Copy)]
 pub struct Checked {
     pub refused: u32,
     pub measures: usize,

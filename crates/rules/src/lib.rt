@@ -3,7 +3,7 @@
 
 // Counts, in the Rust's order; behind them the measures before and after the active part.
 #[repr(C)]
-#[derive(Drop)]
+#[derive(Clone, Copy)]
 pub struct StreamCounts {
     pub run16_streams: u32,
     pub run20_streams: u32,
@@ -16,7 +16,7 @@ pub struct StreamCounts {
 }
 
 // Class of a measure.
-#[derive(Drop)]
+#[derive(Clone, Copy)]
 pub enum RunDensity {
     Run32,
     Run24,
@@ -26,7 +26,7 @@ pub enum RunDensity {
 }
 
 // Mode of an SN text.
-#[derive(Drop)]
+#[derive(Clone, Copy)]
 pub enum BreakdownMode {
     Detailed,
     Partial,
@@ -34,7 +34,7 @@ pub enum BreakdownMode {
 }
 
 // Level of a standard text.
-#[derive(Drop)]
+#[derive(Clone, Copy)]
 pub enum StreamBreakdownLevel {
     Detailed,
     Partial,
@@ -43,7 +43,7 @@ pub enum StreamBreakdownLevel {
 }
 
 // The seven texts: three SN modes and four standard levels.
-#[derive(Drop)]
+#[derive(Clone, Copy)]
 pub enum Kind {
     Sn(BreakdownMode),
     Standard(StreamBreakdownLevel),
@@ -51,7 +51,7 @@ pub enum Kind {
 
 // A piece, or a gap of 2 or more: its first measure, one past its last, and which of the two it is.
 #[repr(C)]
-#[derive(Drop)]
+#[derive(Clone, Copy)]
 pub struct StreamSegment {
     pub start: usize,
     pub end: usize,
@@ -60,7 +60,7 @@ pub struct StreamSegment {
 
 // What a step of the token view says: a token's class and length, or that the tokens have ended.
 #[repr(C)]
-#[derive(Drop)]
+#[derive(Clone, Copy)]
 pub struct ViewToken {
     pub ended: bool,
     pub class: u8,
@@ -68,7 +68,7 @@ pub struct ViewToken {
 }
 
 // The level that a label shows, if one fits.
-#[derive(Drop)]
+#[derive(Clone, Copy)]
 pub enum LabelChoice {
     Fits(StreamBreakdownLevel),
     NoneFits,

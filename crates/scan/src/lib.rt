@@ -13,14 +13,14 @@ use rules::StreamCounts;
 
 // What the scan answers: the counts and the number of tokens.
 #[repr(C)]
-#[derive(Drop)]
+#[derive(Clone, Copy)]
 pub struct ScanAnswer {
     pub counts: StreamCounts,
     pub tokens: usize,
 }
 
 // How many of a chart's first tokens were taken, and the measure where the tokens after them begin.
-#[derive(Drop)]
+#[derive(Clone, Copy)]
 pub struct Taken {
     pub tokens: usize,
     pub next: usize,
@@ -39,7 +39,7 @@ fn class_at(d: u32) -> u8
 }
 
 // A class's least density, and how many it has beyond that.
-#[derive(Drop)]
+#[derive(Clone, Copy)]
 struct Bounds {
     lo: u32,
     more: u32,
@@ -77,7 +77,7 @@ fn run_on(m: &[u32], i: usize, class: u8, so_far: u32) -> usize
 }
 
 // The run that a scan is in: its class, its measures so far, and its place in the slices.
-#[derive(Drop)]
+#[derive(Clone, Copy)]
 struct Pending {
     class: u8,
     length: u32,

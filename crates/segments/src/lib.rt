@@ -13,7 +13,7 @@ use rules::StreamSegment;
 
 // The refusal's number, 0 where the call is accepted, and how many records were written.
 #[repr(C)]
-#[derive(Drop)]
+#[derive(Clone, Copy)]
 pub struct SegmentsAnswer {
     pub refused: u32,
     pub count: usize,
@@ -21,7 +21,7 @@ pub struct SegmentsAnswer {
 
 // The refusal's number, whether there is a segment of that number, and the segment.
 #[repr(C)]
-#[derive(Drop)]
+#[derive(Clone, Copy)]
 pub struct NthSegment {
     pub refused: u32,
     pub found: bool,

@@ -8,13 +8,13 @@ use measures::class::class_of;
 use rules::StreamSegment;
 
 // A place in the measures.
-#[derive(Drop)]
+#[derive(Clone, Copy)]
 pub struct Cursor {
     pub at: usize,
 }
 
 // A segment and the place after it, or the end.
-#[derive(Drop)]
+#[derive(Clone, Copy)]
 pub enum SegmentStep {
     Segment(StreamSegment, Cursor),
     Done,

@@ -7,7 +7,7 @@ use crate::steps::{Cursor, SegmentStep, count_segments, first_cursor, next_segme
 use rules::StreamSegment;
 
 // Whether a segment is left to write, its place, the segment, where the next step begins, and the answer if none is left.
-#[derive(Drop)]
+#[derive(Clone, Copy)]
 pub struct Turn {
     pub more: bool,
     pub place: usize,

@@ -13,7 +13,7 @@ use record::read_chart_record;
 
 // The bytes to print: the first `length` of `bytes`.
 #[repr(C)]
-#[derive(Drop)]
+#[derive(Clone, Copy)]
 pub struct Sheet {
     pub bytes: [u8; 66048],
     pub length: usize,

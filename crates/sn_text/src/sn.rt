@@ -18,7 +18,7 @@ use text_buffer::run::{Done, Run, Tally, add_ended, open_run, run_length};
 use text_buffer::words::class_word;
 
 // The next run, the break before it (0: none), and the place behind it.
-#[derive(Drop)]
+#[derive(Clone, Copy)]
 struct NextRun {
     gap: u32,
     class: u8,
@@ -51,7 +51,7 @@ fn next_run(cs: &[u8], ns: &[u32], i: usize) -> NextRun
 }
 
 // Where the next run stands, and the break before it (0: none).
-#[derive(Drop)]
+#[derive(Clone, Copy)]
 pub struct RunPlace {
     pub gap: u32,
     pub place: usize,

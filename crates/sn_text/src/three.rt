@@ -12,14 +12,14 @@ use text_buffer::run::{Run, add_ended, add_run, open_run};
 use text_buffer::three::Three;
 
 // The run that is open in a text, and the next place of its buffer.
-#[derive(Drop)]
+#[derive(Clone, Copy)]
 struct Turn {
     run: Run,
     place: usize,
 }
 
 // What is open in the three texts.
-#[derive(Drop)]
+#[derive(Clone, Copy)]
 struct Turns {
     detailed: Turn,
     partial: Turn,

@@ -4,14 +4,14 @@ ghost use Rattle.number.specs.Digits.{is_digit};
 ghost use Rattle.sn_to_standard.specs.Items.{Within, NumberRead, RunRead, BreakRead, mark_class};
 
 // A number of 1 to 1,048,576 and the place behind its digits. The value is 0 where there is no such number.
-#[derive(Drop)]
+#[derive(Clone, Copy)]
 pub struct Number {
     pub value: u32,
     pub next: usize,
 }
 
 // A run or a break and the place behind it, a break's space included. The length is 0 where there is none, or one of more than 1,048,576.
-#[derive(Drop)]
+#[derive(Clone, Copy)]
 pub struct Item {
     pub class: u8,
     pub length: u32,

@@ -3,14 +3,14 @@ ghost use Rattle.std.specs.Prelude.{◌≡◌, cond, false, ◌||◌, ◌<◌, �
 ghost use Rattle.standard_text.specs.Filled.{Filled, Long, TokenPlace};
 
 // A piece that may still grow.
-#[derive(Drop)]
+#[derive(Clone, Copy)]
 pub struct Piece {
     pub length: u64,
     pub starred: bool,
 }
 
 // The next token's place, the piece that is open there, and how many are done.
-#[derive(Drop)]
+#[derive(Clone, Copy)]
 pub struct FillEnd {
     pub next: usize,
     pub piece: Piece,

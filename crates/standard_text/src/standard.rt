@@ -22,14 +22,14 @@ use text_buffer::gap::{add_in_parens, part_word};
 use text_buffer::run::{add_star, star_length};
 
 // The piece that is open behind a part, and where the text goes on.
-#[derive(Drop)]
+#[derive(Clone, Copy)]
 pub struct StandardDone {
     pub piece: Piece,
     pub to: Left,
 }
 
 // The piece that is open behind a part, and how many bytes are done.
-#[derive(Drop)]
+#[derive(Clone, Copy)]
 pub struct StandardMeasured {
     pub piece: Piece,
     pub length: usize,

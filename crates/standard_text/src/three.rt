@@ -13,14 +13,14 @@ use text_buffer::run::add_star;
 use text_buffer::three::Three;
 
 // The piece that is open in the simple text, and the next place of its buffer.
-#[derive(Drop)]
+#[derive(Clone, Copy)]
 struct SimpleTurn {
     piece: Piece,
     place: usize,
 }
 
 // What is open in the three texts, and the next place of each buffer: detailed and partial have the same pieces, without a star.
-#[derive(Drop)]
+#[derive(Clone, Copy)]
 struct PieceTurns {
     piece: u64,
     joined: Piece,

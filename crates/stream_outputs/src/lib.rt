@@ -22,7 +22,7 @@ mod short;
 
 // What the pass answers: the refusal's number, the counts, the number of tokens and the length of each of the six texts.
 #[repr(C)]
-#[derive(Drop)]
+#[derive(Clone, Copy)]
 pub struct StreamOutputs {
     pub refused: u32,
     pub counts: StreamCounts,

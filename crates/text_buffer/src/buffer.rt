@@ -26,7 +26,7 @@ pub fn put_buffer(out: &mut [u8], at: usize, buf: &[u8], k: usize) -> usize
 }
 
 // Where a text goes on: the next place of the slice, and how many bytes stand in the buffer for it.
-#[derive(Drop)]
+#[derive(Clone, Copy)]
 pub struct Left {
     pub place: usize,
     pub left: usize,

@@ -15,7 +15,7 @@ use number::digit_count;
 
 // A run that may still grow. The class is last: where it stood first, it was read back by a wider load than it was stored by, which the processor
 // has to wait for.
-#[derive(Drop)]
+#[derive(Clone, Copy)]
 pub struct Run {
     pub length: u64,
     pub starred: bool,
@@ -33,14 +33,14 @@ pub fn open_run(class: u8, length: u32) -> Run
 }
 
 // The run that is open (in a standard text, a piece), and where the text goes on.
-#[derive(Drop)]
+#[derive(Clone, Copy)]
 pub struct Done {
     pub run: Run,
     pub to: Left,
 }
 
 // The run that is open, and how many bytes stand before it.
-#[derive(Drop)]
+#[derive(Clone, Copy)]
 pub struct Tally {
     pub run: Run,
     pub length: usize,

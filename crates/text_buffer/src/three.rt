@@ -6,7 +6,7 @@ ghost use Rattle.text_buffer.specs.Three.{ThreeRoom};
 use crate::buffer::put_buffer;
 
 // How many bytes each of them has.
-#[derive(Drop)]
+#[derive(Clone, Copy)]
 pub struct Three {
     pub first: usize,
     pub second: usize,

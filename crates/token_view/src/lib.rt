@@ -11,20 +11,20 @@ use measures::tokens::token_at;
 use rules::ViewToken;
 
 // What is left to step through.
-#[derive(Drop)]
+#[derive(Clone, Copy)]
 pub struct TokenView<'a> {
     pub measures: &'a [u32],
 }
 
 // The number of the first no, or 0, and the view at the chart's start.
-#[derive(Drop)]
+#[derive(Clone, Copy)]
 pub struct Opened<'a> {
     pub refused: u32,
     pub view: TokenView<'a>,
 }
 
 // What a step says, and the view that it leaves.
-#[derive(Drop)]
+#[derive(Clone, Copy)]
 pub struct TokenStep<'a> {
     pub token: ViewToken,
     pub next: TokenView<'a>,
@@ -32,7 +32,7 @@ pub struct TokenStep<'a> {
 
 // The number of the first no, or 0, and what a step says.
 #[repr(C)]
-#[derive(Drop)]
+#[derive(Clone, Copy)]
 pub struct NthToken {
     pub refused: u32,
     pub token: ViewToken,

@@ -11,10 +11,10 @@ use Rattle.text_buffer.proofs.run.run_length.Goals as goal
 use Rattle.text_buffer.proofs.run.run_length.Goals.{Joined-run-lt2, then-run-lt2, else-run-lt2}
 
 mark-right : (c : Joined-run-lt2) → c.if-run-lt2.mark ≡ length (mark c.args.run.class)
-mark-right c = 
+mark-right c =
     elim c.if-run-lt2.branch [
-      then-run-lt2 w ↦ w.mark-is ∙ sym (ap length (mark-none _ w.if-run-lt2.true))
-    | else-run-lt2 w ↦ w.mark-is ∙ sym (mark-one _ w.if-run-lt2.false)
+      | then-run-lt2 w ↦ w.mark-is ∙ sym (ap length (mark-none _ w.if-run-lt2.true))
+      | else-run-lt2 w ↦ w.mark-is ∙ sym (mark-one _ w.if-run-lt2.false)
     ]
 
 pub overflow_add-result : goal.overflow_add-result
