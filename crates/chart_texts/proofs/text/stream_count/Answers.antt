@@ -23,4 +23,4 @@ overflow_add-result-3 c =
 pub returns : goal.returns
 returns c =
     let counted-here : Known c.args.m.now c.chart_counts-counts.result = known c.args.m.now _ c.requires.few c.chart_counts-counts.ensures in
-    (counted-here).sum
+    counted-here.sum
