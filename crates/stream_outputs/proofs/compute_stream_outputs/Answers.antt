@@ -5,7 +5,6 @@ use lib.Seq.{length-take-le}
 use Rattle.scan.proofs.Written.{within_c, within_n}
 use Rattle.stream_outputs.specs.Promises.{pass_no}
 use Rattle.stream_outputs.proofs.Pass.{refused, Fitting, fitting, passed, tokened}
-use borrow.Author.Rules.{rules}
 use Rattle.stream_outputs.proofs.compute_stream_outputs.Goals as goal
 
 pub returns-then-no-ne0 : goal.returns-then-no-ne0

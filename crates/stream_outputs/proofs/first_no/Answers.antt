@@ -5,7 +5,6 @@ use native.Mathlib.Omega.{arith}
 use Rattle.counts.proofs.TokenSums.{tokens-few}
 use Rattle.breakdown.proofs.Modes.{active-measures}
 use Rattle.stream_outputs.proofs.Pass.{roomy, no-1, no-2, no-4, no-0, sum, due-tokens, due-bytes}
-use borrow.Author.Rules.{rules}
 use Rattle.stream_outputs.proofs.first_no.Goals as goal
 
 pub returns-then-m-gt1048576 : goal.returns-then-m-gt1048576
