@@ -1,18 +1,18 @@
 // The parts of a chart's line, each put at a place of the line and answering the next place.
-ghost use Rattle.io.specs.Counts.{IsPrefixLen};
+ghost use Rattle.std.specs.Counts.{IsPrefixLen};
 
 use alike::alike;
 use chart_list::line::{put_bytes, put_number};
 use counts::compute_stream_counts;
 use counts::share::share;
-use libc::STDOUT_FILENO;
 use measures::active::active_range;
 use rules::StreamCounts;
 use segments::segment_at;
+use std::io;
 use token_view::nth_token;
 
 // The line of the chart `m`, whose line stands behind that of `previous`.
-pub fn print_answers(previous: &[u32], m: &[u32]) {
+pub fn print_answers(rt: &impl Print, previous: &[u32], m: &[u32]) -> io::Result<()> {
     let mut line = [0u8; 4096];
     let active = active_range(m);
     let counts_end = put_counts(&mut line, 0, m);
@@ -22,7 +22,7 @@ pub fn print_answers(previous: &[u32], m: &[u32]) {
     let segments_end = put_segments(&mut line, all_end, b"; segments", m);
     let share_end = put_share(&mut line, segments_end, m);
     let end = put_alike(&mut line, share_end, previous, m);
-    io::write_all(STDOUT_FILENO, &line[..end]);
+    rt.write_all(&line[..end])
 }
 
 // A word, and a number behind it.
