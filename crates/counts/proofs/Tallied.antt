@@ -214,7 +214,7 @@ all_told {m} {a} {b} {c} {d} {e} {i = i} g h =
       two = rw (held-runs, b', c') r.2;
       three = rw (held-runs, c', d') r.3;
       four = rw (held-runs, d') r.4;
-      gaps = rw (held-runs, e') (lones m g.closed.ends);
+      gaps = rw (held-runs 0 (classes m), e') (lones m g.closed.ends);
     }
 
 pub ended : {m : List ℕ} {a b c d e : ℕ} → Told m a b c d e

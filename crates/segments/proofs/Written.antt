@@ -1,9 +1,9 @@
 -- The records in the lent slice, and the turns that write them. Nothing here speaks of code.
 -- Assumes nothing.
 use Prim.Native.Nat.{ℕ, zero, suc, ◌+◌, ◌≤◌, ◌<◌}
-use mathlib.Core.Path.{◌≡◌, refl}
-use mathlib.Core.Bool.{true, false}
-use mathlib.Core.List.{List, [], ◌∷◌, ◌++◌, append_assoc}
+use mathlib.Core.Path.{◌≡◌, refl, sym, ◌∙◌}
+use mathlib.Core.Bool.{true, false, true≢false}
+use mathlib.Core.List.{List, [], ◌∷◌, ◌++◌, append_assoc, append-nil}
 use native.Mathlib.Nat.{add-zero}
 use native.Mathlib.Numerals.{add-one}
 use native.Mathlib.Omega.{arith}
@@ -16,11 +16,12 @@ use Rattle.number.proofs.Split.{split}
 use Rattle.rules.specs.Chart.{classes}
 use Rattle.rules.specs.Calls.{segments}
 use Rattle.rules.specs.declared.StreamSegment.{StreamSegment}
-use Rattle.segments.specs.Promises.{segments_no}
+use Rattle.segments.specs.Promises.{segments_no, Segmented}
 use Rattle.segments.specs.Steps.{stretch, segments_from, step_of}
 use Rattle.segments.specs.Turns.{turn_of, initial_turn, next_turn}
 use Rattle.segments.specs.declared.SegmentsAnswer.{SegmentsAnswer}
-use Rattle.segments.specs.declared.steps.SegmentStep.TheVariants.{Done}
+use Rattle.segments.specs.declared.steps.SegmentStep.{SegmentStep}
+use Rattle.segments.specs.declared.steps.SegmentStep.TheVariants.{Segment, Done}
 use Rattle.segments.specs.declared.turns.Turn.{Turn}
 use Rattle.segments.proofs.Stretches.{follows, from_start, from_last}
 
@@ -86,3 +87,56 @@ module _ (m : List ℕ) where
           (λ h. left-all 0 _ (from_start m (ltb-true _ _ h)))
           (λ h. left-all (stretch false m 0) _ (from_last m (ltb-false _ _ h) _ refl))
       by_number (suc n) = (refl, refl)
+
+-- the turn after another writes one place further on
+turn-place : (s : SegmentStep) (k n : ℕ) → (turn_of s k n).place ≡ k
+turn-place (Segment s c) k n = refl
+turn-place Done k n = refl
+
+pub next-place : (m : List ℕ) (t : Turn) → (next_turn m t).place ≡ t.place + 1
+unfolding next_turn
+next-place m t = turn-place (step_of (segments_from m t.next.at)) (t.place + 1) 0
+
+-- ---- the loop that writes: the records written, those left, and the turn that stands
+
+pub record Writing (m : List ℕ) (old out : List StreamSegment) (t : Turn) : Type 0 where
+  written : List StreamSegment
+  left : List StreamSegment
+  whole : written ++ left ≡ due m old
+  goes : Left m (answer_of m old) (length written) left t
+  holds : out ≡ filled old written
+
+pub writing-starts : (m : List ℕ) (old : List StreamSegment) → Writing m old old (initial_turn m (length old))
+writing-starts m old = record { written = []; left = due m old; whole = refl; goes = first-left m old; holds = refl }
+
+module _ (m : List ℕ) (old out : List StreamSegment) (t : Turn) where
+  -- a turn that has a record to write
+  turned : (d ss : List StreamSegment) → d ++ ss ≡ due m old → Left m (answer_of m old) (length d) ss t → out ≡ filled old d → t.more ≡ true
+      → (t.place < length out) × Writing m old (set out t.place t.segment) (next_turn m t)
+  turned d [] w g h e = absurd (true≢false (sym e ∙ g.0))
+  turned d (s ∷ ss) w g h e =
+      let all : length d + suc (length ss) ≡ length (due m old) = rw (← w) (sym (length-append d (s ∷ ss))) in
+      let room : length d < length old = omega (arith, all, due-fits m old) in
+      let one : length (d ++ (s ∷ [])) ≡ length d + 1 = length-append d (s ∷ []) in
+      (rw (g.1, h, filled-length d old (omega arith)) room, record {
+        written = d ++ (s ∷ []);
+        left = ss;
+        whole = rw append_assoc w;
+        goes = rw one g.3;
+        holds = rw (h, g.1, g.2) (filled_more d old s room);
+      })
+
+  -- a turn that has none
+  stopped : (d ss : List StreamSegment) → d ++ ss ≡ due m old → Left m (answer_of m old) (length d) ss t → out ≡ filled old d → t.more ≡ false
+      → Segmented m old out t.answer
+  stopped d [] w g h e =
+      let all : d ≡ due m old = sym (append-nil d) ∙ w in
+      record { answer = g.1; records = h ∙ rw all (filled-due m old) }
+  stopped d (s ∷ ss) w g h e = absurd (true≢false (sym g.0 ∙ e))
+
+  module _ (w : Writing m old out t) where
+    pub writing-more : t.more ≡ true → (t.place < length out) × Writing m old (set out t.place t.segment) (next_turn m t)
+    writing-more e = turned w.written w.left w.whole w.goes w.holds e
+
+    pub writing-ends : t.more ≡ false → Segmented m old out t.answer
+    writing-ends e = stopped w.written w.left w.whole w.goes w.holds e

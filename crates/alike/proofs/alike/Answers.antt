@@ -1,5 +1,6 @@
 -- `alike::alike` meets its contract.
 -- Assumes nothing.
+use Rattle.std.proofs.Common.{length}
 use mathlib.Core.Logic.{⊎_elim}
 use borrow.Author.Rules.{rules}
 use borrow.Author.Tests.{le-leb, lt-leb, ltb-true, ltb-false}
@@ -9,15 +10,15 @@ use Rattle.alike.proofs.alike.Goals as goal
 pub returns-then-a-gt1048576 : goal.returns-then-a-gt1048576
 returns-then-a-gt1048576 c =
     ⊎_elim
-    (λ w. rw (lt-leb _ 1048576 w.taken))
-    (λ w. rw (le-leb _ 1048576 w.0.left, lt-leb _ 1048576 (ltb-true _ _ w.1.taken)))
-    c.then-a-gt1048576.branch
+    (λ w. rw (lt-leb (length c.args.a.now) 1048576 w))
+    (λ w. rw (le-leb (length c.args.a.now) 1048576 w.0, lt-leb (length c.args.b.now) 1048576 w.1))
+    c.then-a-gt1048576.either
 
 pub returns : goal.returns
 returns c =
     let s = c.args in
     rw (
       le-leb _ 1048576 c.if-a-gt1048576.false,
-      le-leb _ 1048576 (ltb-false _ _ c.if-b-gt1048576.false),
+      le-leb _ 1048576 c.if-b-gt1048576.false,
       alike s.a.now s.b.now _ _ _ c.active_range.ensures c.active_range-2.ensures c.same_places.ensures,
     )
