@@ -15,7 +15,7 @@ fn print_line(rt: &impl Print, n: u64) -> io::Result<()> {
 fn main(rt: HostRuntime) -> io::Result<()> {
     print_line(&rt, 0)?;
     let mut power: u64 = 1;
-    loop {
+    'powers: loop {
         print_line(&rt, power - 1)?;
         print_line(&rt, power)?;
         print_line(&rt, power + 1)?;
