@@ -61,12 +61,10 @@ fn put_active(out: &mut [u8], at: usize, start: usize, length: usize) -> usize
 
 // The number of measures before the first stream measure, 0 if there is none.
 fn lead_in(m: &[u32]) -> usize {
-    let mut i = 0;
-    while i < m.len() {
-        if 16 <= m[i] {
+    for (i, density) in m.iter().enumerate() {
+        if 16 <= *density {
             return i;
         }
-        i += 1;
     }
     0
 }
@@ -76,16 +74,14 @@ fn put_tokens(out: &mut [u8], at: usize, word: &[u8], m: &[u32]) -> usize
     ensures { IsPrefixLen result out.new }
 {
     let mut end = put_bytes(out, at, word);
-    let mut k = 0;
     // A chart has no more tokens than measures.
-    while k < m.len() {
+    for k in 0..m.len() {
         let answer = nth_token(m, k);
         let token = answer.token;
         if token.ended {
             return end;
         }
         end = put_token(out, end, token.class, token.length);
-        k += 1;
     }
     end
 }
@@ -102,16 +98,14 @@ fn put_segments(out: &mut [u8], at: usize, word: &[u8], m: &[u32]) -> usize
     ensures { IsPrefixLen result out.new }
 {
     let mut end = put_bytes(out, at, word);
-    let mut k = 0;
     // A chart has no more segments than measures.
-    while k < m.len() {
+    for k in 0..m.len() {
         let answer = segment_at(m, k);
         if !answer.found {
             return end;
         }
         let segment = answer.segment;
         end = put_segment(out, end, segment.start, segment.end, segment.is_break);
-        k += 1;
     }
     end
 }
