@@ -1,0 +1,14 @@
+-- `scan::add_up` meets its contract: the loop's invariant and its steps are `Adding`'s.
+-- Assumes nothing.
+use Prim.Native.Nat.{◌-◌, ◌≤◌}
+use lib.ListN.{length, get_or}
+use Rattle.scan.proofs.Adding.{Adding, starts, small, low, added, finished}
+use native.Mathlib.Omega.{arith}
+use borrow.Author.Rules.{rules}
+use Rattle.scan.proofs.add_up.Given as goal
+
+abbrev pub invariant-loop-i : goal.invariant-loop-i
+invariant-loop-i l = Adding l.cs l.ns l.a l.b l.c l.d l.e l.f l.i
+
+abbrev pub decreases-loop-i : goal.decreases-loop-i
+decreases-loop-i l = length l.cs - l.i

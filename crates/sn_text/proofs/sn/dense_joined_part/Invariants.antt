@@ -1,0 +1,18 @@
+-- `sn_text::sn::dense_joined_part` meets its contract: the loop's steps are `SnParts`'s.
+-- Assumes nothing.
+use Prim.Native.Nat.{◌-◌}
+use mathlib.Core.Path.{◌∙◌, sym}
+use native.Mathlib.Omega.{arith}
+use lib.ListN.{length}
+use borrow.Author.Rules.{rules}
+use Rattle.text_buffer.specs.Runs.{run_token}
+use Rattle.text_buffer.proofs.Added.{added_out}
+use Rattle.number.proofs.Grown.{within}
+use Rattle.sn_text.proofs.SnParts.{Writing, writing-starts, writing-ends, writing-joins, writing-room, writing-next, opened-at, opened-low}
+use Rattle.sn_text.proofs.sn.dense_joined_part.Given as goal
+
+abbrev pub invariant-loop-i : goal.invariant-loop-i
+invariant-loop-i l = Writing l.limit (run_token l.initial.last) l.cs l.ns l.initial.buf l.initial.out l.initial.to l.buf l.out (run_token l.last) l.to l.i
+
+abbrev pub decreases-loop-i : goal.decreases-loop-i
+decreases-loop-i l = length l.cs - l.i

@@ -1,0 +1,22 @@
+-- `sn_text::three::sn_three` meets its contract.
+-- Assumes nothing.
+use borrow.Author.Rules.{rules}
+use Rattle.sn_text.proofs.SnThree.{opened-written}
+use Rattle.sn_text.proofs.three.sn_three.Goals as goal
+
+pub add_run-requires-3 : goal.add_run-requires-3
+add_run-requires-3 c =
+    let o = c.three_turns-t.ensures.simplified in (
+      o.room,
+      c.requires.words,
+      o.low,
+    )
+
+pub returns : goal.returns
+returns c =
+    let o = c.three_turns-t.ensures in
+    record {
+      first = opened-written o.detailed c.add_run.ensures;
+      second = opened-written o.partial c.add_run-2.ensures;
+      third = opened-written o.simplified c.add_run-3.ensures;
+    }

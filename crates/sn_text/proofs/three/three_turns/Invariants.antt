@@ -1,0 +1,19 @@
+-- `sn_text::three::three_turns` meets its contract: each text's steps are `SnThree`'s.
+-- Assumes nothing.
+use Prim.Native.Nat.{◌-◌}
+use mathlib.Core.Logic.{⊎_elim}
+use native.Mathlib.Omega.{arith}
+use lib.ListN.{length}
+use borrow.Author.Rules.{rules}
+use Rattle.text_buffer.specs.Runs.{run_token}
+use Rattle.sn_text.proofs.SnParts.{opened-at, no-break, some-break}
+use Rattle.sn_text.proofs.SnThree.{Walking, walking-starts, walking-low, walking-room, walking-few, walking-next, walking-ends}
+use Rattle.sn_text.proofs.three.three_turns.Given as goal
+
+abbrev pub invariant-loop-i : goal.invariant-loop-i
+invariant-loop-i l =
+    Walking 0 (run_token l.initial.a.run) l.cs l.ns l.initial.detailed l.detailed l.a l.i × Walking 1 (run_token l.initial.b.run) l.cs l.ns l.initial.partial l.partial l.b l.i
+    × Walking 4 (run_token l.initial.c.run) l.cs l.ns l.initial.simplified l.simplified l.c l.i
+
+abbrev pub decreases-loop-i : goal.decreases-loop-i
+decreases-loop-i l = length l.cs - l.i

@@ -1,0 +1,17 @@
+-- `standard_text::standard::dense_part` meets its contract.
+-- Assumes nothing.
+use Prim.Native.Nat.{◌-◌}
+use mathlib.Core.Path.{refl}
+use native.Mathlib.Omega.{arith}
+use lib.ListN as List
+use Rattle.standard_text.specs.Filled.{Long}
+use Rattle.text_buffer.proofs.Added.{added_out}
+use Rattle.standard_text.proofs.StandardParts.{Parted, filled-step, part-starts, part_room, part_step, part_end}
+use Rattle.standard_text.proofs.standard.dense_part.Given as goal
+
+abbrev pub invariant-loop-i : goal.invariant-loop-i
+invariant-loop-i l =
+    Parted l.signs l.limit l.initial.«open».length l.initial.«open».starred l.cs l.ns l.initial.buf l.initial.out l.initial.to l.buf l.out l.to l.i l.«open».length l.«open».starred × Long l.lengths l.stars l.gaps
+
+abbrev pub decreases-loop-i : goal.decreases-loop-i
+decreases-loop-i l = List.length l.cs - l.i
