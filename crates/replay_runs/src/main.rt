@@ -17,10 +17,9 @@ fn print_symbol(rt: &impl Print, class: RunDensity, length: u64, star: bool) -> 
 }
 
 fn print_class(rt: &impl Print, class: RunDensity) -> io::Result<()> {
-    let lengths = &LENGTHS;
-    for k in 0..7 {
-        print_symbol(rt, class, lengths[k], false)?;
-        print_symbol(rt, class, lengths[k], true)?;
+    for length in &LENGTHS {
+        print_symbol(rt, class, *length, false)?;
+        print_symbol(rt, class, *length, true)?;
     }
     Ok(())
 }
