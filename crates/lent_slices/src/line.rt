@@ -11,10 +11,8 @@ pub fn print_number(rt: &impl Print, n: u64) -> io::Result<()> {
 
 // The first `count` of the numbers.
 pub fn print_numbers(rt: &impl Print, numbers: &[usize], count: usize) -> io::Result<()> {
-    let mut k = 0;
-    while k < numbers.len() && k < count {
-        print_number(rt, numbers[k] as u64)?;
-        k += 1;
+    for number in numbers.iter().take(count) {
+        print_number(rt, *number as u64)?;
     }
     Ok(())
 }

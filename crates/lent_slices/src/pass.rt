@@ -111,10 +111,8 @@ fn wide(x: u8) -> u64 {
 // The whole slice of classes, behind a bar.
 fn print_classes(rt: &impl Print, classes: &[u8]) -> io::Result<()> {
     rt.write_all(b" |")?;
-    let mut k = 0;
-    while k < classes.len() {
-        print_number(rt, wide(classes[k]))?;
-        k += 1;
+    for class in classes {
+        print_number(rt, wide(*class))?;
     }
     Ok(())
 }
@@ -126,10 +124,8 @@ fn widened(x: u32) -> u64 {
 // The whole slice of lengths, behind a bar.
 fn print_lengths(rt: &impl Print, lengths: &[u32]) -> io::Result<()> {
     rt.write_all(b" |")?;
-    let mut k = 0;
-    while k < lengths.len() {
-        print_number(rt, widened(lengths[k]))?;
-        k += 1;
+    for length in lengths {
+        print_number(rt, widened(*length))?;
     }
     Ok(())
 }

@@ -73,13 +73,11 @@ fn print_three(
     ensures { IfOk result (λ end. From texts.now at end) }
 {
     let mut start = at;
-    let mut kind = first;
-    while kind < first + 3 {
+    for kind in first..first + 3 {
         let end = text_end(texts, start, lengths[kind]);
         print_line(rt, &texts[start..end])?;
         compare_one(rt, m, kind, &texts[start..end], space)?;
         start = end;
-        kind += 1;
     }
     Ok(start)
 }
