@@ -20,11 +20,11 @@ abbrev refusal : ℕ → Written
 refusal n = record { refused = n; length = 0 }
 
 -- a question that a function answered
-pub said-no : {r b : Bool} → r ≡ b → not r ≡ true → b ≡ false
-said-no {r = r} e h = sym e ∙ not-true r h
+pub said-no : {r b : Bool} → r ≡ b → r ≡ false → b ≡ false
+said-no e h = sym e ∙ h
 
-pub said-yes : {r b : Bool} → r ≡ b → not r ≡ false → b ≡ true
-said-yes {r = r} e h = sym e ∙ not-false r h
+pub said-yes : {r b : Bool} → r ≡ b → r ≡ true → b ≡ true
+said-yes e h = sym e ∙ h
 
 module _ (k : Kind) (m old : List ℕ) where
   pub breakdown-1 : 1048576 < length m → Breakdown k m old old (refusal 1)

@@ -117,14 +117,16 @@ module _ (m : List ℕ) (old out : List StreamSegment) (t : Turn) where
   turned d (s ∷ ss) w g h e =
       let all : length d + suc (length ss) ≡ length (due m old) = rw (← w) (sym (length-append d (s ∷ ss))) in
       let room : length d < length old = omega (arith, all, due-fits m old) in
-      let one : length (d ++ (s ∷ [])) ≡ length d + 1 = length-append d (s ∷ []) in
-      (rw (g.1, h, filled-length d old (omega arith)) room, record {
-        written = d ++ (s ∷ []);
-        left = ss;
-        whole = rw append_assoc w;
-        goes = rw one g.3;
-        holds = rw (h, g.1, g.2) (filled_more d old s room);
-      })
+      let one : length (d ++ (s ∷ [])) ≡ length d + 1 = length-append d (s ∷ []) in (
+        rw (g.1, h, filled-length d old (omega arith)) room,
+        record {
+          written = d ++ (s ∷ []);
+          left = ss;
+          whole = rw append_assoc w;
+          goes = rw one g.3;
+          holds = rw (h, g.1, g.2) (filled_more d old s room);
+        },
+      )
 
   -- a turn that has none
   stopped : (d ss : List StreamSegment) → d ++ ss ≡ due m old → Left m (answer_of m old) (length d) ss t → out ≡ filled old d → t.more ≡ false

@@ -1,7 +1,7 @@
 -- From the answers of the pass and of Total to what is printed for a chart. Nothing here speaks of code.
 -- Assumes nothing.
 use Prim.Native.Nat.{ℕ, zero, suc, ◌+◌, ◌≤◌}
-use mathlib.Core.Path.{◌≡◌, refl, sym, ap, ◌∙◌}
+use mathlib.Core.Path.{subst, ◌≡◌, refl, sym, ap, ◌∙◌}
 use mathlib.Core.Bool.{Bool, true, false, cond, ◌&&◌}
 use mathlib.Core.List.{List, [], ◌∷◌, ◌++◌, append_assoc, append-nil}
 use native.Mathlib.Omega.{arith}
@@ -66,8 +66,10 @@ cut-behind (k ∷ ks) m before rest start e =
     let t = text k m in
     let more = end_to_end ks m ++ rest in
     let next = cut-behind ks m (before ++ t) rest (start + length t) (length-append before t ∙ rw e) in
-    rw (append_assoc t (end_to_end ks m) rest, drop_at before (t ++ more) start e, take_at t more (length t) refl)
-    (ap (λ (l : List ℕ). line t ++ l) (rw append_assoc at next))
+    let whole : before ++ (end_to_end (k ∷ ks) m ++ rest) ≡ before ++ (t ++ more) =
+        ap (λ (l : List ℕ). before ++ l) (append_assoc t (end_to_end ks m) rest) in
+    subst (λ (l : List ℕ). cut_lines l start (lengths_of (k ∷ ks) m) ≡ text_lines (k ∷ ks) m) (sym whole)
+    (rw (drop_at before (t ++ more) start e, take_at t more (length t) refl) (ap (λ (l : List ℕ). line t ++ l) (rw append_assoc at next)))
 
 cut_all : (ks : List Kind) (m rest : List ℕ) → cut_lines (end_to_end ks m ++ rest) 0 (lengths_of ks m) ≡ text_lines ks m
 cut_all ks m rest = cut-behind ks m [] rest 0 refl

@@ -61,6 +61,10 @@ pub data Shows : List Token → List Token → Type 0 where
   nothing : Shows [] []
   first : (c n : ℕ) {ts us : List Token} → Run c n → Behind c ts us → Shows (token c n false ∷ ts) (token c n false ∷ us)
 
+-- behind the first token
+shows-behind : {t u : Token} {ts us : List Token} → Shows (t ∷ ts) (u ∷ us) → Behind (class t) ts us
+shows-behind (first c n r b) = b
+
 -- ---- of a chart
 
 -- what a list is cut into, behind a measure of class p
@@ -108,13 +112,15 @@ module _ (b : Bool) where
   gapped-over c n k ts = rw (gapped-behind k ts)
 
   gapped-next : (c n : ℕ) {us : List Token} → Run c n → Headed us → Shows (gapped us) us → Shows (gapped (token c n false ∷ us)) (token c n false ∷ us)
-  gapped-next c n r (headed d k us q) (first _ _ _ t) =
+  gapped-next c n r (headed d k us q) s =
+      let t = shows-behind s in
       rw (both_runs_lem c n d k (omega arith) (omega arith))
       (split (b || eqb c d) (λ e. rw e (first c n r (gap d k q t))) (λ e. rw e (first c n r (beside d k q (eqb-false c d (both_false b (eqb c d) e).1) t))))
 
   gapped-break : (c n k : ℕ) {ts us : List Token} → Run c n → 2 ≤ k → Headed us → Shows ts us
       → Shows (token c n false ∷ token 0 k false ∷ ts) (token c n false ∷ token 0 k false ∷ us)
-  gapped-break c n k r h (headed d j us q) (first _ _ _ t) = first c n r (break k d j h q t)
+  gapped-break c n k r h o nothing = elim o [ ]
+  gapped-break c n k r h o (first d j q t) = first c n r (break k d j h q t)
 
   gapped-order : {us : List Token} → Ordered us → Shows (gapped us) us
   gapped-order (last r) = first _ _ r end

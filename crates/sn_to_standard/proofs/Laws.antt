@@ -27,7 +27,7 @@ use Rattle.sn_to_standard.specs.Promises.{text_no, sn_to_standard_no, SnToStanda
 use Rattle.sn_to_standard.specs.Laws.{sn_text, standard_text, Passes18, Passes19, SomeChart, TwoCharts, Converts, Answers, Ordered}
 use Rattle.sn_to_standard.specs.Laws.{writing, OwnText, SnToStandardLaws}
 use Rattle.sn_to_standard.proofs.Charts.{Shows, chart-shows, gapped, gapped-shows, gapped-more}
-use Rattle.sn_to_standard.proofs.Spread.{chart_of, chart-of, chart-long, chart-tokens}
+use Rattle.sn_to_standard.proofs.Spread.{chart_of, chart_of_lem, chart-long, chart-tokens}
 use Rattle.sn_to_standard.proofs.Decided.{flat-runs, says}
 use Rattle.sn_to_standard.proofs.Exact.{reads-exactly}
 
@@ -65,15 +65,15 @@ module _ {us : List Token} (o : (us ≡ []) ⊎ Ordered us) where
   made-text b = let s = gapped-shows b o in own-text (chart_of (gapped b us)) {us = us} (rw (chart-tokens s) s)
 
   some-chart : total (with_gaps us) ≤ 1048576 → SomeChart (writing us)
-  some-chart h = record { m = chart_of (with_gaps us); chart = chart-of (with_gaps us); few = rw (chart-long (with_gaps us)) h; has = made-text false }
+  some-chart h = record { m = chart_of (with_gaps us); chart = chart_of_lem (with_gaps us); few = rw (chart-long (with_gaps us)) h; has = made-text false }
 
   two-charts : undecided us ≡ true → TwoCharts (writing us)
   two-charts u =
       record {
         a = chart_of (gapped false us);
         b = chart_of (gapped true us);
-        chart-a = chart-of (gapped false us);
-        chart-b = chart-of (gapped true us);
+        chart-a = chart_of_lem (gapped false us);
+        chart-b = chart_of_lem (gapped true us);
         has-a = made-text false;
         has-b = made-text true;
         differ = λ e.

@@ -27,8 +27,8 @@ spread (token c n s ∷ ts) = replicate n c ++ spread ts
 abbrev pub chart_of : List Token → List ℕ
 chart_of ts = map density (spread ts)
 
-pub chart-of : (ts : List Token) → Chart (chart_of ts)
-chart-of ts i h = rw (get_or-map density (spread ts) i 0) (omega arith)
+pub chart_of_lem : (ts : List Token) → Chart (chart_of ts)
+chart_of_lem ts i h = rw (get_or-map density (spread ts) i 0) (omega arith)
 
 pub chart-long : (ts : List Token) → length (chart_of ts) ≡ total ts
 chart-long [] = refl

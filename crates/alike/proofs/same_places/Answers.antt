@@ -1,11 +1,8 @@
 -- `alike::same_places` meets its contract: the loop's invariant and its steps are `Same`'s.
 -- Assumes nothing.
-use Prim.Native.Nat.{◌-◌}
 use mathlib.Core.Path.{refl}
 use mathlib.Core.Bool.{false≢true}
-use lib.ListN.{length}
-use borrow.Author.Rules.{rules}
-use Rattle.alike.proofs.Same.{Agree, agree-none, agree-more, agree-all, unlike-length, unlike-place}
+use Rattle.alike.proofs.Same.{agree-none, agree-more, agree-all, unlike-length, unlike-place}
 use Rattle.alike.proofs.same_places.Goals as goal
 
 pub returns-then-a-b : goal.returns-then-a-b

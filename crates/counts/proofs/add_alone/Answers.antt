@@ -1,7 +1,6 @@
 -- `counts::add_alone` meets its contract: one test after the other.
 -- Assumes nothing.
 use borrow.Author.Tests.{lt-ltb, le-ltb}
-use borrow.Author.Rules.{rules}
 use Rattle.counts.proofs.add_alone.Goals as goal
 
 pub returns-then-x-lt16 : goal.returns-then-x-lt16

@@ -1,7 +1,6 @@
 -- `counts::add_from` meets its contract: by its test.
 -- Assumes nothing.
 use borrow.Author.Tests.{lt-ltb, le-ltb}
-use borrow.Author.Rules.{rules}
 use Rattle.counts.proofs.add_from.Goals as goal
 
 pub returns-then-x-t : goal.returns-then-x-t

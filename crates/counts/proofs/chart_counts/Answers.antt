@@ -1,7 +1,6 @@
 -- `counts::chart_counts` meets its contract.
 -- Assumes nothing.
 use mathlib.Core.Path.{ap, ◌∙◌}
-use borrow.Author.Rules.{rules}
 use Rattle.counts.specs.Sums.{sums_of}
 use Rattle.measures.proofs.Part.{part-runs}
 use Rattle.counts.proofs.Tallied.{closed}

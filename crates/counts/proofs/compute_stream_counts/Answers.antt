@@ -1,6 +1,5 @@
 -- `counts::compute_stream_counts` meets its contract.
 -- Assumes nothing.
-use borrow.Author.Rules.{rules}
 use borrow.Author.Tests.{le-leb, lt-leb}
 use Rattle.counts.proofs.compute_stream_counts.Goals as goal
 

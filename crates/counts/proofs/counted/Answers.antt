@@ -2,7 +2,6 @@
 -- Assumes nothing.
 use mathlib.Core.Path.{◌∙◌}
 use native.Mathlib.Omega.{arith}
-use borrow.Author.Rules.{rules}
 use Rattle.counts.proofs.TokenSums.{fits, low, counted, uncounted}
 use Rattle.counts.proofs.counted.Goals as goal
 

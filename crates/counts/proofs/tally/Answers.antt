@@ -1,10 +1,7 @@
 -- `counts::tally` meets its contract: the loop's invariant and its steps are `Tallied`'s.
 -- Assumes nothing.
-use Prim.Native.Nat.{◌-◌}
-use lib.ListN.{length}
-use Rattle.counts.proofs.Tallied.{Telling, begins, low, told, all_told, ended}
+use Rattle.counts.proofs.Tallied.{begins, low, told, all_told, ended}
 use native.Mathlib.Omega.{arith}
-use borrow.Author.Rules.{rules}
 use Rattle.counts.proofs.tally.Goals as goal
 
 pub loop-i-init : goal.loop-i-init

@@ -2,9 +2,7 @@
 -- Assumes nothing.
 use Prim.Native.Nat.{◌-◌}
 use lib.ListN.{length}
-use Rattle.counts.proofs.Tallied.{Telling, begins, low, told, all_told, ended}
-use native.Mathlib.Omega.{arith}
-use borrow.Author.Rules.{rules}
+use Rattle.counts.proofs.Tallied.{Telling}
 use Rattle.counts.proofs.tally.Given as goal
 
 abbrev pub invariant-loop-i : goal.invariant-loop-i

@@ -22,5 +22,4 @@ put_by_fours-requires c = (c.count_by_fours-length.ensures.number, record { fits
 
 pub returns : goal.returns
 returns c =
-    let p = c in
-    written _ _ _ (omega arith) p.put_by_fours.ensures _ p.count_by_fours-length.ensures.number
+    written _ _ _ (omega arith) c.put_by_fours.ensures _ c.count_by_fours-length.ensures.number

@@ -6,23 +6,20 @@ use Rattle.number.proofs.Backward.{starts, step-four, four-more, finished}
 use Rattle.number.proofs.put_by_fours.Goals as goal
 
 pub loop-rest-init : goal.loop-rest-init
-loop-rest-init c = let s = c in rw s.requires.0 (starts _ _ (omega (arith, s.requires.1.fits)))
+loop-rest-init c = rw c.requires.0 (starts _ _ (omega (arith, c.requires.1.fits)))
 
 pub overflow_sub-k : goal.overflow_sub-k
 overflow_sub-k c = let l = c.loop-rest in four-more _ _ l.out l.k l.rest l.invariant c.loop-rest-test.true
 
 pub store_word-requires : goal.store_word-requires
 store_word-requires c =
-    let t = c in
-    let l = t.loop-rest in
-    omega (arith, four-more _ _ l.out l.k l.rest l.invariant t.loop-rest-test.true, l.invariant.long, l.invariant.within)
+    let l = c.loop-rest in
+    omega (arith, four-more _ _ l.out l.k l.rest l.invariant c.loop-rest-test.true, l.invariant.long, l.invariant.within)
 
 pub loop-rest-preserved : goal.loop-rest-preserved
 loop-rest-preserved c =
-    let w = c in
-    let t = w in
-    let l = t.loop-rest in
-    rw w.store_word.ensures (step-four _ _ l.out l.k l.rest l.invariant t.loop-rest-test.true _ w.four_digits.ensures)
+    let l = c.loop-rest in
+    rw c.store_word.ensures (step-four _ _ l.out l.k l.rest l.invariant c.loop-rest-test.true _ c.four_digits.ensures)
 
 pub put_by_ten-requires : goal.put_by_ten-requires
 put_by_ten-requires c =

@@ -11,26 +11,19 @@ put_spaces-requires c = room-first _ _ c.requires.1
 
 pub slice_bounds-put_by_fours-count : goal.slice_bounds-put_by_fours-count
 slice_bounds-put_by_fours-count c =
-    let w = c in
-    omega (arith, (room_next _ _ w.put_spaces.ensures w.requires.1).fits)
+    omega (arith, (room_next _ _ c.put_spaces.ensures c.requires.1).fits)
 
 pub slice_bounds-put_by_fours-start : goal.slice_bounds-put_by_fours-start
 slice_bounds-put_by_fours-start c =
-    let w = c in
-    omega (arith, (room_next _ _ w.put_spaces.ensures w.requires.1).fits)
+    omega (arith, (room_next _ _ c.put_spaces.ensures c.requires.1).fits)
 
 pub put_by_fours-requires : goal.put_by_fours-requires
 put_by_fours-requires c =
-    let w = c in
-    let s = w in
-    let room = room_next _ _ w.put_spaces.ensures s.requires.1 in
-    (s.requires.0, record { fits = omega (arith, part_room (digits s.args.n) _ [] s.args.spaces room) })
+    let room = room_next _ _ c.put_spaces.ensures c.requires.1 in
+    (c.requires.0, record { fits = omega (arith, part_room (digits c.args.n) _ [] c.args.spaces room) })
 
 pub returns : goal.returns
 returns c =
-    let f = c in
-    let w = f in
-    let s = w in
-    let room = room_next _ _ w.put_spaces.ensures s.requires.1 in
-    let all = wrote _ _ w.put_spaces.ensures (part_filled _ _ _ _ room f.put_by_fours.ensures) in
-    (at-start _ _ _ _ (omega (arith, s.requires.1.fits)) all).1
+    let room = room_next _ _ c.put_spaces.ensures c.requires.1 in
+    let all = wrote _ _ c.put_spaces.ensures (part_filled _ _ _ _ room c.put_by_fours.ensures) in
+    (at-start _ _ _ _ (omega (arith, c.requires.1.fits)) all).1

@@ -7,11 +7,9 @@ use Rattle.number.proofs.put_u64.Goals as goal
 
 pub overflow_add-result : goal.overflow_add-result
 overflow_add-result c =
-    let s = c in
-    let p = rw (width-yes s.args.width _ s.requires.0) at c.push_padded-written.ensures in
-    omega (arith, s.requires.1.fits, part_length _ s.args.out.now _ s.args.at s.requires.1 _ p)
+    let p = rw (width-yes c.args.width _ c.requires.0) at c.push_padded-written.ensures in
+    omega (arith, c.requires.1.fits, part_length _ c.args.out.now _ c.args.at c.requires.1 _ p)
 
 pub returns : goal.returns
 returns c =
-    let s = c in
-    part-wrote _ _ _ _ s.requires.1 _ (rw (width-yes s.args.width _ s.requires.0) at c.push_padded-written.ensures)
+    part-wrote _ _ _ _ c.requires.1 _ (rw (width-yes c.args.width _ c.requires.0) at c.push_padded-written.ensures)

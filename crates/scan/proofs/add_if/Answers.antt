@@ -1,7 +1,6 @@
 -- `scan::add_if` meets its contract: by its test.
 -- Assumes nothing.
 use borrow.Author.Tests.{eq-eqb, ne_eqb}
-use borrow.Author.Rules.{rules}
 use Rattle.scan.proofs.add_if.Goals as goal
 
 pub returns-then-k-x : goal.returns-then-k-x

@@ -1,10 +1,9 @@
 -- `scan::add_up` meets its contract: the loop's invariant and its steps are `Adding`'s.
 -- Assumes nothing.
-use Prim.Native.Nat.{◌-◌, ◌≤◌}
-use lib.ListN.{length, get_or}
-use Rattle.scan.proofs.Adding.{Adding, starts, small, low, added, finished}
+use Prim.Native.Nat.{◌≤◌}
+use lib.ListN.{get_or}
+use Rattle.scan.proofs.Adding.{starts, small, low, added, finished}
 use native.Mathlib.Omega.{arith}
-use borrow.Author.Rules.{rules}
 use Rattle.scan.proofs.add_up.Goals as goal
 
 pub loop-i-init : goal.loop-i-init

@@ -1,10 +1,8 @@
 -- `scan::add_up` meets its contract: the loop's invariant and its steps are `Adding`'s.
 -- Assumes nothing.
-use Prim.Native.Nat.{◌-◌, ◌≤◌}
-use lib.ListN.{length, get_or}
-use Rattle.scan.proofs.Adding.{Adding, starts, small, low, added, finished}
-use native.Mathlib.Omega.{arith}
-use borrow.Author.Rules.{rules}
+use Prim.Native.Nat.{◌-◌}
+use lib.ListN.{length}
+use Rattle.scan.proofs.Adding.{Adding}
 use Rattle.scan.proofs.add_up.Given as goal
 
 abbrev pub invariant-loop-i : goal.invariant-loop-i

@@ -1,7 +1,5 @@
 -- `scan::class_at` meets its contract: the digit that is left is the class, and above 32 that of 32.
 -- Assumes nothing.
-use mathlib.Core.Logic.{⊎_elim}
-use borrow.Author.Rules.{rules}
 use native.Mathlib.Omega.{arith}
 use Rattle.scan.proofs.Classes.{up_to_lem, above}
 use Rattle.scan.proofs.class_at.Goals as goal
@@ -14,6 +12,6 @@ pub returns : goal.returns
 returns c =
     let d = c.args.d in
     elim c.if-x-gt32.branch [
-    then-x-gt32 w ↦ rw w.x-is (above d w.if-x-gt32.true)
-    | else-x-gt32 w ↦ rw w.x-is (up_to_lem d w.if-x-gt32.false)
+      | then-x-gt32 w ↦ rw w.x-is (above d w.if-x-gt32.true)
+      | else-x-gt32 w ↦ rw w.x-is (up_to_lem d w.if-x-gt32.false)
     ]

@@ -1,7 +1,6 @@
 -- `scan::run_on` meets its contract: a stretch within the bounds of a class is of that class.
 -- Assumes nothing.
 use native.Mathlib.Omega.{arith}
-use borrow.Author.Rules.{rules}
 use Rattle.scan.proofs.run_on.Goals as goal
 
 pub returns-then-m-so_far : goal.returns-then-m-so_far

@@ -6,7 +6,6 @@ use mathlib.Core.Path.{◌≡◌}
 use mathlib.Core.List.{List}
 use native.Mathlib.Omega.{arith}
 use lib.ListN.{length, set}
-use borrow.Author.Rules.{rules}
 use Rattle.scan.specs.Scan.{ScanInvariant, Steps}
 use Rattle.scan.proofs.ScanInvariant.{empty, starts, room, skipped, places, long_c, long_n, stopped, finished}
 use Rattle.scan.proofs.runs_into.Goals as goal
@@ -40,7 +39,7 @@ ready c count h b =
       low = omega (arith, c.if-k-most.false);
       old = c.args.cs.now;
       new = c.args.ns.now;
-      invariant = on c _ _ (invariant-here);
+      invariant = on c _ _ invariant-here;
     }
 
 pub returns-then-m-eq0 : goal.returns-then-m-eq0
@@ -76,28 +75,28 @@ shape_of-cs-then-k-most c =
     let invariant-here : let s = c.args in let l = c.loop-i in ScanInvariant s.m.now s.cs.now s.ns.now l.cs l.ns s.most l.p.class l.p.length l.p.place l.i = let a = c.args in
     c.loop-i.invariant a.cs.now a.ns.now
     (rw c.class_at-c.ensures (starts a.m.now a.cs.now a.ns.now a.most (omega arith) c.requires.room_c c.requires.room_n)) in
-    long_c (invariant-here)
+    long_c invariant-here
 
 pub shape_of-ns-then-k-most : goal.shape_of-ns-then-k-most
 shape_of-ns-then-k-most c =
     let invariant-here : let s = c.args in let l = c.loop-i in ScanInvariant s.m.now s.cs.now s.ns.now l.cs l.ns s.most l.p.class l.p.length l.p.place l.i = let a = c.args in
     c.loop-i.invariant a.cs.now a.ns.now
     (rw c.class_at-c.ensures (starts a.m.now a.cs.now a.ns.now a.most (omega arith) c.requires.room_c c.requires.room_n)) in
-    long_n (invariant-here)
+    long_n invariant-here
 
 pub returns-then-k-most : goal.returns-then-k-most
 returns-then-k-most c =
     let invariant-here : let s = c.args in let l = c.loop-i in ScanInvariant s.m.now s.cs.now s.ns.now l.cs l.ns s.most l.p.class l.p.length l.p.place l.i = let a = c.args in
     c.loop-i.invariant a.cs.now a.ns.now
     (rw c.class_at-c.ensures (starts a.m.now a.cs.now a.ns.now a.most (omega arith) c.requires.room_c c.requires.room_n)) in
-    stopped (invariant-here) c.loop-i-test.true c.if-k-most.true
+    stopped invariant-here c.loop-i-test.true c.if-k-most.true
 
 pub run_on-j-requires : goal.run_on-j-requires
 run_on-j-requires c =
     let invariant-here : let s = c.args in let l = c.loop-i in ScanInvariant s.m.now s.cs.now s.ns.now l.cs l.ns s.most l.p.class l.p.length l.p.place l.i = let a = c.args in
     c.loop-i.invariant a.cs.now a.ns.now
     (rw c.class_at-c.ensures (starts a.m.now a.cs.now a.ns.now a.most (omega arith) c.requires.room_c c.requires.room_n)) in
-    (omega arith, (invariant-here).small)
+    (omega arith, invariant-here.small)
 
 pub overflow_sub-p : goal.overflow_sub-p
 overflow_sub-p c = omega (arith, c.run_on-j.ensures.onward)
@@ -128,7 +127,7 @@ bounds-ns-k c =
     let invariant-here : let s = c.args in let l = c.loop-i in ScanInvariant s.m.now s.cs.now s.ns.now l.cs l.ns s.most l.p.class l.p.length l.p.place l.i = let a = c.args in
     c.loop-i.invariant a.cs.now a.ns.now
     (rw c.class_at-c.ensures (starts a.m.now a.cs.now a.ns.now a.most (omega arith) c.requires.room_c c.requires.room_n)) in
-    (places (invariant-here)).1
+    (places invariant-here).1
 
 pub overflow_sub-m : goal.overflow_sub-m
 overflow_sub-m c = omega (arith, c.run_on-j.ensures.within)
@@ -148,7 +147,7 @@ steps_into-p-requires-then-m-j-gt16 c =
       low = omega (arith, c.steps_into-p.ensures.near, c.if-k-most.false);
       old = c.args.cs.now;
       new = c.args.ns.now;
-      invariant = c.steps_into-p.ensures.onward _ _ _ (omega (arith, c.if-k-most.false)) (on (goal.at.steps_into-p-requires-then-m-j-gt16 c).After-run_on-j _ _ (invariant-here));
+      invariant = c.steps_into-p.ensures.onward _ _ _ (omega (arith, c.if-k-most.false)) (on (goal.at.steps_into-p-requires-then-m-j-gt16 c).After-run_on-j _ _ invariant-here);
     }
 
 pub overflow_add-i : goal.overflow_add-i
@@ -189,18 +188,18 @@ shape_of-cs c =
     let invariant-here : let s = c.args in let l = c.loop-i in ScanInvariant s.m.now s.cs.now s.ns.now l.cs l.ns s.most l.p.class l.p.length l.p.place l.i = let a = c.args in
     c.loop-i.invariant a.cs.now a.ns.now
     (rw c.class_at-c.ensures (starts a.m.now a.cs.now a.ns.now a.most (omega arith) c.requires.room_c c.requires.room_n)) in
-    long_c (invariant-here)
+    long_c invariant-here
 
 pub shape_of-ns : goal.shape_of-ns
 shape_of-ns c =
     let invariant-here : let s = c.args in let l = c.loop-i in ScanInvariant s.m.now s.cs.now s.ns.now l.cs l.ns s.most l.p.class l.p.length l.p.place l.i = let a = c.args in
     c.loop-i.invariant a.cs.now a.ns.now
     (rw c.class_at-c.ensures (starts a.m.now a.cs.now a.ns.now a.most (omega arith) c.requires.room_c c.requires.room_n)) in
-    long_n (invariant-here)
+    long_n invariant-here
 
 pub returns : goal.returns
 returns c =
     let invariant-here : let s = c.args in let l = c.loop-i in ScanInvariant s.m.now s.cs.now s.ns.now l.cs l.ns s.most l.p.class l.p.length l.p.place l.i = let a = c.args in
     c.loop-i.invariant a.cs.now a.ns.now
     (rw c.class_at-c.ensures (starts a.m.now a.cs.now a.ns.now a.most (omega arith) c.requires.room_c c.requires.room_n)) in
-    finished (invariant-here) c.loop-i-test.false
+    finished invariant-here c.loop-i-test.false

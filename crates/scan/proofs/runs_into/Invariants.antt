@@ -1,14 +1,10 @@
 -- `scan::runs_into` meets its contract: the loop's invariant and its steps are `ScanInvariant`'s. A chain of `.before` leads from a
 -- place of the code to an earlier one.
 -- Assumes nothing.
-use Prim.Native.Nat.{ℕ, ◌+◌, ◌-◌, ◌≤◌}
-use mathlib.Core.Path.{◌≡◌}
+use Prim.Native.Nat.{ℕ, ◌-◌}
 use mathlib.Core.List.{List}
-use native.Mathlib.Omega.{arith}
-use lib.ListN.{length, set}
-use borrow.Author.Rules.{rules}
-use Rattle.scan.specs.Scan.{ScanInvariant, Steps}
-use Rattle.scan.proofs.ScanInvariant.{empty, starts, room, skipped, places, long_c, long_n, stopped, finished}
+use lib.ListN.{length}
+use Rattle.scan.specs.Scan.{ScanInvariant}
 use Rattle.scan.proofs.runs_into.Given as goal
 
 -- the invariant speaks of what the slices hold where the loop begins, and not where the function does: so it says that what is so there stays so

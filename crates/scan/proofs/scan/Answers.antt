@@ -4,7 +4,6 @@ use mathlib.Core.Path.{refl, sym, ap, ◌∙◌}
 use mathlib.Core.Logic.{inl}
 use native.Mathlib.Omega.{arith}
 use lib.Seq.{length-take-le}
-use borrow.Author.Rules.{rules}
 use Rattle.counts.specs.Sums.{sums_of}
 use Rattle.measures.proofs.Part.{part-within, part-runs}
 use Rattle.scan.proofs.Written.{within_c, within_n, back, pairs}

@@ -1,14 +1,12 @@
 -- `scan::steps_into` meets its contract: the loop's invariant and its steps are `ScanInvariant`'s.
 -- Assumes nothing.
-use Prim.Native.Nat.{ℕ, ◌+◌, ◌-◌, ◌≤◌, ◌<◌}
+use Prim.Native.Nat.{ℕ, ◌+◌, ◌<◌}
 use mathlib.Core.Path.{◌≡◌, ◌∙◌, sym}
 use mathlib.Core.List.{List}
-use mathlib.Core.Logic.{⊎_elim}
 use native.Mathlib.Nat.{add-zero}
 use native.Mathlib.Omega.{arith}
 use lib.ListN.{length, set, length-set}
-use borrow.Author.Rules.{rules}
-use Rattle.scan.specs.Scan.{ScanInvariant, Onward}
+use Rattle.scan.specs.Scan.{ScanInvariant}
 use Rattle.scan.proofs.ScanInvariant.{same, other, places, long_c, long_n}
 use Rattle.scan.proofs.steps_into.Goals as goal
 use Rattle.scan.proofs.steps_into.Goals.{Joined-d-c, else-d-c, then-d-c}
@@ -27,8 +25,8 @@ step c most old new h g =
     let t = c.loop-t.t in
     let e : f + (t + 1) ≡ f + t + 1 = omega arith in
     elim c.if-d-c.branch [
-    then-d-c w ↦ rw (e, w.n-is, w.k-is, d) (other g (omega arith) (λ q. w.if-d-c.true (d ∙ q)) h)
-    | else-d-c w ↦ rw (e, w.n-is, w.k-is, d) (same g (omega arith) (sym d ∙ w.if-d-c.false))
+      | then-d-c w ↦ rw (e, w.n-is, w.k-is, d) (other g (omega arith) (λ q. w.if-d-c.true (d ∙ q)) h)
+      | else-d-c w ↦ rw (e, w.n-is, w.k-is, d) (same g (omega arith) (sym d ∙ w.if-d-c.false))
     ]
 
 -- one more measure, over what the function's entry knows of
@@ -40,7 +38,7 @@ stepped : (c : Joined-d-c) →
     s.requires.most d c.if-d-c.n c.if-d-c.k (s.args.from + (l.t + 1))
 stepped c =
     let invariant-here : let l = c.loop-t in ScanInvariant c.args.m.now c.requires.old c.requires.new l.cs l.ns c.requires.most l.c l.n l.k (c.args.from + l.t) = let p = c.requires in c.loop-t.invariant.0 p.most p.old p.new (omega arith) p.invariant in
-    step c _ _ _ (omega arith) (invariant-here)
+    step c _ _ _ (omega arith) invariant-here
 
 -- the token that is written has its place
 kept : (c : Joined-d-c) →
@@ -81,12 +79,12 @@ loop-t-preserved c =
 pub shape_of-cs : goal.shape_of-cs
 shape_of-cs c =
     let invariant-here : let l = c.loop-t in ScanInvariant c.args.m.now c.requires.old c.requires.new l.cs l.ns c.requires.most l.c l.n l.k (c.args.from + l.t) = let p = c.requires in c.loop-t.invariant.0 p.most p.old p.new (omega arith) p.invariant in
-    long_c (invariant-here) ∙ sym (long_c c.requires.invariant)
+    long_c invariant-here ∙ sym (long_c c.requires.invariant)
 
 pub shape_of-ns : goal.shape_of-ns
 shape_of-ns c =
     let invariant-here : let l = c.loop-t in ScanInvariant c.args.m.now c.requires.old c.requires.new l.cs l.ns c.requires.most l.c l.n l.k (c.args.from + l.t) = let p = c.requires in c.loop-t.invariant.0 p.most p.old p.new (omega arith) p.invariant in
-    long_n (invariant-here) ∙ sym (long_n c.requires.invariant)
+    long_n invariant-here ∙ sym (long_n c.requires.invariant)
 
 pub returns : goal.returns
 returns c =

@@ -1,15 +1,7 @@
 -- `scan::steps_into` meets its contract: the loop's invariant and its steps are `ScanInvariant`'s.
 -- Assumes nothing.
-use Prim.Native.Nat.{ℕ, ◌+◌, ◌-◌, ◌≤◌, ◌<◌}
-use mathlib.Core.Path.{◌≡◌, ◌∙◌, sym}
-use mathlib.Core.List.{List}
-use mathlib.Core.Logic.{⊎_elim}
-use native.Mathlib.Nat.{add-zero}
-use native.Mathlib.Omega.{arith}
-use lib.ListN.{length, set, length-set}
-use borrow.Author.Rules.{rules}
-use Rattle.scan.specs.Scan.{ScanInvariant, Onward}
-use Rattle.scan.proofs.ScanInvariant.{same, other, places, long_c, long_n}
+use Prim.Native.Nat.{◌+◌, ◌-◌, ◌≤◌}
+use Rattle.scan.specs.Scan.{Onward}
 use Rattle.scan.proofs.steps_into.Given as goal
 
 abbrev pub invariant-loop-t : goal.invariant-loop-t

@@ -1,13 +1,8 @@
 -- `segments::segment_at` meets its contract. The loop's invariant: the segment wanted is the one that `left` others from the cursor on stand before.
 -- Assumes nothing.
-use mathlib.Core.Path.{◌≡◌, sym, ◌∙◌}
+use mathlib.Core.Path.{sym, ◌∙◌}
 use mathlib.Core.List.{[], ◌∷◌}
 use native.Mathlib.Omega.{arith}
-use lib.ListN.{length, drop}
-use borrow.Author.Rules.{rules}
-use Rattle.rules.specs.Chart.{classes}
-use Rattle.rules.specs.Calls.{segments}
-use Rattle.segments.specs.Steps.{segments_from}
 use Rattle.segments.proofs.Stretches.{Stepped, stepped, one_less, ended}
 use Rattle.segments.proofs.Answers.{nth-refused, nth-is, here, further, past_end}
 use Rattle.segments.proofs.segment_at.Goals as goal
@@ -22,18 +17,18 @@ pub returns-then-left-eq0 : goal.returns-then-left-eq0
 returns-then-left-eq0 c =
     let step-here : Stepped c.args.measures.now c.loop-segment.c.at c.in-Segment.segment c.in-Segment.next = stepped _ _ _ _ (sym c.next_segment.ensures ∙ c.in-Segment.is) in
     let l = c.loop-segment in
-    nth-is _ _ (omega arith) (_ ∷ _) (sym (here _ _ l.left (step-here) c.if-left-eq0.true) ∙ l.invariant)
+    nth-is _ _ (omega arith) (_ ∷ _) (sym (here _ _ l.left step-here c.if-left-eq0.true) ∙ l.invariant)
 
 pub loop-segment-smaller : goal.loop-segment-smaller
 loop-segment-smaller c =
     let step-here : Stepped c.args.measures.now c.loop-segment.c.at c.in-Segment.segment c.in-Segment.next = stepped _ _ _ _ (sym c.next_segment.ensures ∙ c.in-Segment.is) in
-    omega (arith, one_less _ _ (step-here))
+    omega (arith, one_less _ _ step-here)
 
 pub loop-segment-preserved : goal.loop-segment-preserved
 loop-segment-preserved c =
     let step-here : Stepped c.args.measures.now c.loop-segment.c.at c.in-Segment.segment c.in-Segment.next = stepped _ _ _ _ (sym c.next_segment.ensures ∙ c.in-Segment.is) in
     let l = c.loop-segment in
-    sym (further _ _ l.left (step-here) c.if-left-eq0.false) ∙ l.invariant
+    sym (further _ _ l.left step-here c.if-left-eq0.false) ∙ l.invariant
 
 pub returns : goal.returns
 returns c =

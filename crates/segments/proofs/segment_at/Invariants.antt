@@ -1,15 +1,10 @@
 -- `segments::segment_at` meets its contract. The loop's invariant: the segment wanted is the one that `left` others from the cursor on stand before.
 -- Assumes nothing.
-use mathlib.Core.Path.{◌≡◌, sym, ◌∙◌}
-use mathlib.Core.List.{[], ◌∷◌}
-use native.Mathlib.Omega.{arith}
+use mathlib.Core.Path.{◌≡◌}
 use lib.ListN.{length, drop}
-use borrow.Author.Rules.{rules}
 use Rattle.rules.specs.Chart.{classes}
 use Rattle.rules.specs.Calls.{segments}
 use Rattle.segments.specs.Steps.{segments_from}
-use Rattle.segments.proofs.Stretches.{Stepped, stepped, one_less, ended}
-use Rattle.segments.proofs.Answers.{nth-refused, nth-is, here, further, past_end}
 use Rattle.segments.proofs.segment_at.Given as goal
 
 abbrev pub invariant-loop-segment : goal.invariant-loop-segment

@@ -3,7 +3,6 @@
 use mathlib.Core.Path.{sym, ◌∙◌}
 use lib.ListN.{length}
 use lib.Seq.{drop-length}
-use borrow.Author.Rules.{rules}
 use Rattle.token_view.proofs.Views.{part-from, kept, none_kept}
 use Rattle.token_view.proofs.admit.Goals as goal
 

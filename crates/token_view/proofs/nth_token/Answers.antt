@@ -1,7 +1,6 @@
 -- `token_view::nth_token` meets its contract.
 -- Assumes nothing.
 use mathlib.Core.Path.{sym, ap, ◌∙◌}
-use borrow.Author.Rules.{rules}
 use Rattle.rules.specs.Calls.{step_at}
 use Rattle.token_view.proofs.Views.{kept, nth-refused, nth-accepted}
 use Rattle.token_view.proofs.nth_token.Goals as goal

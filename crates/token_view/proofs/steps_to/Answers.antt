@@ -1,6 +1,5 @@
 -- `token_view::steps_to` meets its contract: after as many steps as there are measures, every step says ended.
 -- Assumes nothing.
-use borrow.Author.Rules.{rules}
 use Rattle.token_view.proofs.Views.{ended-alike}
 use Rattle.token_view.proofs.steps_to.Goals as goal
 

@@ -1,6 +1,6 @@
 -- `token_view::token_after` meets its contract: at the number i the view is the one that i steps left.
 -- Assumes nothing.
-use Rattle.std.proofs.Common.{ℕ, ◌≡◌, ◌+◌, suc, arith, add-one}
+use Rattle.std.proofs.Common.{◌≡◌, arith, add-one}
 use Rattle.token_view.proofs.Views.{after_none, after_more, step-says}
 use Rattle.token_view.proofs.token_after.Goals as goal
 

@@ -2,7 +2,6 @@
 -- Assumes nothing.
 use mathlib.Core.Path.{◌≡◌, sym, ◌∙◌}
 use native.Mathlib.Omega.{arith}
-use borrow.Author.Rules.{rules}
 use borrow.Author.Tests.{le-leb, lt-leb, lt-ltb}
 use Rattle.rules.specs.Chart.{classes, streams}
 use Rattle.rules.proofs.Share.{share-most}
@@ -30,7 +29,7 @@ overflow_add-streams-3 c =
 pub returns-then-streams-eq0 : goal.returns-then-streams-eq0
 returns-then-streams-eq0 c =
     let counted-here : Known c.args.m.now c.chart_counts-counts.result = known c.args.m.now _ c.if-m-gt1048576.false c.chart_counts-counts.ensures in
-    let none : streams (classes c.args.m.now) ≡ 0 = sym (counted-here).sum ∙ c.if-streams-eq0.true in
+    let none : streams (classes c.args.m.now) ≡ 0 = sym counted-here.sum ∙ c.if-streams-eq0.true in
     rw (le-leb _ 1048576 c.if-m-gt1048576.false, none)
 
 pub overflow_add-all : goal.overflow_add-all

@@ -1,6 +1,6 @@
 -- `measures::active::active_behind` meets its contract.
 -- Assumes nothing.
-use Rattle.std.proofs.Common.{sym, length-take-le, rules}
+use Rattle.std.proofs.Common.{sym, length-take-le}
 use Rattle.measures.proofs.Part.{behind}
 use Rattle.measures.proofs.active.active_behind.Goals as goal
 
@@ -8,4 +8,4 @@ pub slice_bounds-result-end : goal.slice_bounds-result-end
 slice_bounds-result-end c = sym (length-take-le _ _ c.to_last-n.ensures.within)
 
 pub returns : goal.returns
-returns c = let s = c in behind s.args.m.now s.args.lead _ s.requires c.to_last-n.ensures
+returns c = behind c.args.m.now c.args.lead _ c.requires c.to_last-n.ensures

@@ -1,6 +1,6 @@
 -- `measures::active::eight` meets its contract: two stretches of four join.
 -- Assumes nothing.
-use Rattle.std.proofs.Common.{◌≡◌, ◌+◌, arith, rules}
+use Rattle.std.proofs.Common.{◌≡◌, ◌+◌, arith}
 use mathlib.Core.Bool.{and-eq-true_iff}
 use Rattle.measures.proofs.Stretch.{joined}
 use Rattle.measures.proofs.active.eight.Goals as goal

@@ -1,6 +1,6 @@
 -- `measures::active::lead_in` meets its contract: the loop's invariant is that each measure passed is a break.
 -- Assumes nothing.
-use Rattle.std.proofs.Common.{ℕ, ◌-◌, ◌<◌, ◌≤◌, length, get_or, arith, rules, below_more}
+use Rattle.std.proofs.Common.{arith, below_more}
 use Rattle.measures.proofs.Part.{led-in}
 use Rattle.measures.proofs.active.lead_in.Goals as goal
 

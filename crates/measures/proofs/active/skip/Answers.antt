@@ -1,8 +1,6 @@
 -- `measures::active::skip` meets its contract: stretches within bounds join.
 -- Assumes nothing.
-use borrow.Author.Tests.{not-false}
-use Rattle.std.proofs.Common.{◌-◌, length, arith, rules}
-use Rattle.measures.specs.Active.{Stretch}
+use Rattle.std.proofs.Common.{arith}
 use Rattle.measures.proofs.Stretch.{none, joined}
 use Rattle.measures.proofs.active.skip.Goals as goal
 

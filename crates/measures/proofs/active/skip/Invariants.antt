@@ -1,9 +1,7 @@
 -- `measures::active::skip` meets its contract: stretches within bounds join.
 -- Assumes nothing.
-use borrow.Author.Tests.{not-false}
-use Rattle.std.proofs.Common.{◌-◌, length, arith, rules}
+use Rattle.std.proofs.Common.{◌-◌, length}
 use Rattle.measures.specs.Active.{Stretch}
-use Rattle.measures.proofs.Stretch.{none, joined}
 use Rattle.measures.proofs.active.skip.Given as goal
 
 abbrev pub invariant-loop-i : goal.invariant-loop-i

@@ -1,7 +1,6 @@
 -- `measures::active::to_last` meets its contract: the loop's invariant and its steps are `Part`'s.
 -- Assumes nothing.
-use Rattle.std.proofs.Common.{rules}
-use Rattle.measures.proofs.Part.{Back, at-end, break-back, stream-back, none-back}
+use Rattle.measures.proofs.Part.{at-end, break-back, stream-back, none-back}
 use Rattle.measures.proofs.active.to_last.Goals as goal
 
 pub loop-e-init : goal.loop-e-init

@@ -1,7 +1,6 @@
 -- `measures::active::to_last` meets its contract: the loop's invariant and its steps are `Part`'s.
 -- Assumes nothing.
-use Rattle.std.proofs.Common.{rules}
-use Rattle.measures.proofs.Part.{Back, at-end, break-back, stream-back, none-back}
+use Rattle.measures.proofs.Part.{Back}
 use Rattle.measures.proofs.active.to_last.Given as goal
 
 abbrev pub invariant-loop-e : goal.invariant-loop-e

@@ -1,6 +1,6 @@
 -- `measures::class::class_of` meets its contract.
 -- Assumes nothing.
-use Rattle.std.proofs.Common.{sym, ap, ◌∙◌, rules}
+use Rattle.std.proofs.Common.{sym, ap, ◌∙◌}
 use Rattle.rules.specs.Chart.{class_number}
 use Rattle.measures.proofs.class.class_of.Goals as goal
 

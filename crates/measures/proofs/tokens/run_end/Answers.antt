@@ -1,8 +1,6 @@
 -- `measures::tokens::run_end` meets its contract. The loop's invariant: the measures from `at` up to i are of the class.
 -- Assumes nothing.
-use Rattle.std.proofs.Common.{◌≡◌, ◌+◌, ◌-◌, ◌≤◌, length, drop, sym, ◌∙◌, arith, rules}
-use Rattle.rules.specs.Chart.{classes}
-use Rattle.rules.specs.Slices.{leading}
+use Rattle.std.proofs.Common.{sym, ◌∙◌, arith}
 use Rattle.measures.proofs.Stepping.{run-stop, run_more, run_end}
 use Rattle.measures.proofs.tokens.run_end.Goals as goal
 

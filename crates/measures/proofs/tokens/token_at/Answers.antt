@@ -1,6 +1,6 @@
 -- `measures::tokens::token_at` meets its contract.
 -- Assumes nothing.
-use Rattle.std.proofs.Common.{[], ⊎_elim, arith, rules, leb-false, leb-true}
+use Rattle.std.proofs.Common.{[], ⊎_elim, arith, rules, leb-false}
 use Rattle.rules.proofs.Domain.{all-admitted, none-admitted}
 use Rattle.rules.proofs.View.{run_fits}
 use Rattle.measures.proofs.Stepping.{ended_at, token-from}
@@ -19,11 +19,9 @@ run_end-end-requires c = record { few = search rules; within = omega (arith, leb
 
 pub overflow_cast-result : goal.overflow_cast-result
 overflow_cast-result c =
-    let s = c in
-    omega (arith, c.run_end-end.ensures, run_fits s.args.m.now s.args.at c.class_of-class.result (omega (arith, leb-false)))
+    omega (arith, c.run_end-end.ensures, run_fits c.args.m.now c.args.at c.class_of-class.result (omega (arith, leb-false)))
 
 pub returns : goal.returns
 returns c =
-    let s = c in
-    rw (all-admitted s.args.m.now (omega arith))
-    (token-from s.args.m.now s.args.at (omega (arith, leb-false)) _ _ c.class_of-class.ensures (omega (arith, c.run_end-end.ensures)))
+    rw (all-admitted c.args.m.now (omega arith))
+    (token-from c.args.m.now c.args.at (omega (arith, leb-false)) _ _ c.class_of-class.ensures (omega (arith, c.run_end-end.ensures)))

@@ -16,36 +16,25 @@ returns-then-left-lt2 c =
 
 pub returns-then-text-at-ne10 : goal.returns-then-text-at-ne10
 returns-then-text-at-ne10 c =
-    let h = c in
-    let a = h.args in
-    longer a.text.now a.at h.if-left-eq0.false c.if-text-at-ne10.true
+    let a = c.args in
+    longer a.text.now a.at c.if-left-eq0.false c.if-text-at-ne10.true
 
 pub returns-then-text-at-eq44 : goal.returns-then-text-at-eq44
 returns-then-text-at-eq44 c =
-    let t = c in
-    let h = t in
-    let a = h.args in
-    a-comma a.text.now a.at h.if-left-lt2.false t.if-text-at-ne10.false c.if-text-at-eq44.true
+    let a = c.args in
+    a-comma a.text.now a.at c.if-left-lt2.false c.if-text-at-ne10.false c.if-text-at-eq44.true
 
 pub returns-then-text-at-ne59 : goal.returns-then-text-at-ne59
 returns-then-text-at-ne59 c =
-    let u = c in
-    let h = u in
-    let a = h.args in
-    other_byte a.text.now a.at h.if-left-eq0.false u.if-text-at-eq44.false c.if-text-at-ne59.true
+    let a = c.args in
+    other_byte a.text.now a.at c.if-left-eq0.false c.if-text-at-eq44.false c.if-text-at-ne59.true
 
 pub returns-then-left-ne2 : goal.returns-then-left-ne2
 returns-then-left-ne2 c =
-    let s = c in
-    let t = s in
-    let h = t in
-    let a = h.args in
-    bytes-behind a.text.now a.at h.if-left-lt2.false t.if-text-at-ne10.false s.if-text-at-ne59.false c.if-left-ne2.true
+    let a = c.args in
+    bytes-behind a.text.now a.at c.if-left-lt2.false c.if-text-at-ne10.false c.if-text-at-ne59.false c.if-left-ne2.true
 
 pub returns : goal.returns
 returns c =
-    let s = c in
-    let t = s in
-    let h = t in
-    let a = h.args in
-    none-behind a.text.now a.at h.if-left-lt2.false t.if-text-at-ne10.false s.if-text-at-ne59.false c.if-left-ne2.false
+    let a = c.args in
+    none-behind a.text.now a.at c.if-left-lt2.false c.if-text-at-ne10.false c.if-text-at-ne59.false c.if-left-ne2.false

@@ -16,7 +16,5 @@ returns-then-text-at-ne10 c =
 
 pub returns : goal.returns
 returns c =
-    let t = c in
-    let h = t in
-    let a = h.args in
-    row_told a.text.now a.at h.if-text-at-lt5.false t.if-text-at-ne10.false c.row_of.ensures
+    let a = c.args in
+    row_told a.text.now a.at c.if-text-at-lt5.false c.if-text-at-ne10.false c.row_of.ensures

@@ -19,67 +19,58 @@ shape_of-densities-then-rows-eq192 c = c.loop-at.invariant.long
 
 pub returns-then-rows-eq192 : goal.returns-then-rows-eq192
 returns-then-rows-eq192 c =
-    let row-here : let l = c in RowAt l.args.text.now l.loop-at.at c.row_at-row.result = row-found _ _ _ c.row_at-row.ensures c.if-row-lt2.true in
-    let t = c in
-    too_many t.loop-at.invariant (row-here) c.if-rows-eq192.true c.refusal.ensures
+    let row-here : RowAt c.args.text.now c.loop-at.at c.row_at-row.result = row-found _ _ _ c.row_at-row.ensures c.if-row-lt2.true in
+    too_many c.loop-at.invariant row-here c.if-rows-eq192.true c.refusal.ensures
 
 pub loop-at-smaller-then-row-lt2 : goal.loop-at-smaller-then-row-lt2
 loop-at-smaller-then-row-lt2 c =
-    let row-here : let l = c in RowAt l.args.text.now l.loop-at.at c.row_at-row.result = row-found _ _ _ c.row_at-row.ensures c.if-row-lt2.true in
-    omega (arith, (row-here).there.within)
+    let row-here : RowAt c.args.text.now c.loop-at.at c.row_at-row.result = row-found _ _ _ c.row_at-row.ensures c.if-row-lt2.true in
+    omega (arith, row-here.there.within)
 
 pub loop-at-preserved-then-row-lt2 : goal.loop-at-preserved-then-row-lt2
 loop-at-preserved-then-row-lt2 c =
-    let row-here : let l = c in RowAt l.args.text.now l.loop-at.at c.row_at-row.result = row-found _ _ _ c.row_at-row.ensures c.if-row-lt2.true in
-    next_row c.loop-at.invariant (row-here) c.if-rows-eq192.false
+    let row-here : RowAt c.args.text.now c.loop-at.at c.row_at-row.result = row-found _ _ _ c.row_at-row.ensures c.if-row-lt2.true in
+    next_row c.loop-at.invariant row-here c.if-rows-eq192.false
 
 pub overflow_add-measures : goal.overflow_add-measures
 overflow_add-measures c =
-    let comma-here : let l = c in LineAt 1 l.args.text.now l.loop-at.at (44 ∷ []) = byte-found _ _ Measure (sym c.in-Measure.is ∙ c.end_at-ending.ensures) (λ z. omega (arith, z)) in
-    let m = c in
-    omega (arith, (comma-here).within, m.loop-at.invariant.fewer)
+    let comma-here : LineAt 1 c.args.text.now c.loop-at.at (44 ∷ []) = byte-found _ _ Measure (sym c.in-Measure.is ∙ c.end_at-ending.ensures) (λ z. omega (arith, z)) in
+    omega (arith, comma-here.within, c.loop-at.invariant.fewer)
 
 pub overflow_add-at-in-Measure : goal.overflow_add-at-in-Measure
 overflow_add-at-in-Measure c =
-    let comma-here : let l = c in LineAt 1 l.args.text.now l.loop-at.at (44 ∷ []) = byte-found _ _ Measure (sym c.in-Measure.is ∙ c.end_at-ending.ensures) (λ z. omega (arith, z)) in
-    omega (arith, (comma-here).within)
+    let comma-here : LineAt 1 c.args.text.now c.loop-at.at (44 ∷ []) = byte-found _ _ Measure (sym c.in-Measure.is ∙ c.end_at-ending.ensures) (λ z. omega (arith, z)) in
+    omega (arith, comma-here.within)
 
 pub loop-at-smaller : goal.loop-at-smaller
 loop-at-smaller c =
-    let comma-here : let l = c in LineAt 1 l.args.text.now l.loop-at.at (44 ∷ []) = byte-found _ _ Measure (sym c.in-Measure.is ∙ c.end_at-ending.ensures) (λ z. omega (arith, z)) in
-    omega (arith, (comma-here).within)
+    let comma-here : LineAt 1 c.args.text.now c.loop-at.at (44 ∷ []) = byte-found _ _ Measure (sym c.in-Measure.is ∙ c.end_at-ending.ensures) (λ z. omega (arith, z)) in
+    omega (arith, comma-here.within)
 
 pub loop-at-preserved : goal.loop-at-preserved
 loop-at-preserved c =
-    let comma-here : let l = c in LineAt 1 l.args.text.now l.loop-at.at (44 ∷ []) = byte-found _ _ Measure (sym c.in-Measure.is ∙ c.end_at-ending.ensures) (λ z. omega (arith, z)) in
-    let m = c in
-    rw c.keep.ensures (next-measure m.loop-at.invariant (comma-here))
+    let comma-here : LineAt 1 c.args.text.now c.loop-at.at (44 ∷ []) = byte-found _ _ Measure (sym c.in-Measure.is ∙ c.end_at-ending.ensures) (λ z. omega (arith, z)) in
+    rw c.keep.ensures (next-measure c.loop-at.invariant comma-here)
 
 pub overflow_add-measures-in-Last : goal.overflow_add-measures-in-Last
 overflow_add-measures-in-Last c =
-    let semicolon-here : let l = c in LineAt 1 l.args.text.now l.loop-at.at (59 ∷ []) = byte-found _ _ Last (sym c.in-Last.is ∙ c.end_at-ending.ensures) (λ z. omega (arith, z)) in
-    let m = c in
-    omega (arith, (semicolon-here).within, m.loop-at.invariant.fewer)
+    let semicolon-here : LineAt 1 c.args.text.now c.loop-at.at (59 ∷ []) = byte-found _ _ Last (sym c.in-Last.is ∙ c.end_at-ending.ensures) (λ z. omega (arith, z)) in
+    omega (arith, semicolon-here.within, c.loop-at.invariant.fewer)
 
 pub shape_of-densities-in-Last : goal.shape_of-densities-in-Last
 shape_of-densities-in-Last c =
-    let m = c in
-    rw c.keep-in-Last.ensures (kept-long m.loop-at.invariant)
+    rw c.keep-in-Last.ensures (kept-long c.loop-at.invariant)
 
 pub returns-in-Last : goal.returns-in-Last
 returns-in-Last c =
-    let semicolon-here : let l = c in LineAt 1 l.args.text.now l.loop-at.at (59 ∷ []) = byte-found _ _ Last (sym c.in-Last.is ∙ c.end_at-ending.ensures) (λ z. omega (arith, z)) in
-    let m = c in
+    let semicolon-here : LineAt 1 c.args.text.now c.loop-at.at (59 ∷ []) = byte-found _ _ Last (sym c.in-Last.is ∙ c.end_at-ending.ensures) (λ z. omega (arith, z)) in
     let f = semicolon-here in
-    let ends = last-ends f (sym m.in-Last.is ∙ m.end_at-ending.ensures) in
-    rw c.keep-in-Last.ensures (done m.loop-at.invariant f ends c.accepted.ensures)
+    let ends = last-ends f (sym c.in-Last.is ∙ c.end_at-ending.ensures) in
+    rw c.keep-in-Last.ensures (done c.loop-at.invariant f ends c.accepted.ensures)
 
 pub shape_of-densities-in-Fault : goal.shape_of-densities-in-Fault
 shape_of-densities-in-Fault c = c.loop-at.invariant.long
 
 pub returns-in-Fault : goal.returns-in-Fault
 returns-in-Fault c =
-    let m = c in
-    let e = m in
-    let n = e in
-    faulty n.loop-at.invariant n.row_at-row.ensures n.if-row-lt2.false (sym m.in-Fault.is ∙ e.end_at-ending.ensures) c.refusal-in-Fault.ensures
+    faulty c.loop-at.invariant c.row_at-row.ensures c.if-row-lt2.false (sym c.in-Fault.is ∙ c.end_at-ending.ensures) c.refusal-in-Fault.ensures

@@ -7,13 +7,11 @@ use Rattle.number.proofs.buffer.add_u64.Goals as goal
 
 pub add_long-requires : goal.add_long-requires
 add_long-requires c =
-    let s = c in
-    record { fits = omega (arith, s.requires.0, at_most 20 s.args.n (omega arith) (omega arith)) }
+    record { fits = omega (arith, c.requires.0, at_most 20 c.args.n (omega arith) (omega arith)) }
 
 pub add_word-requires : goal.add_word-requires
-add_word-requires c = let s = c in (omega (arith, s.requires.0), (s.requires.2 s.args.n (omega arith)).short)
+add_word-requires c = (omega (arith, c.requires.0), (c.requires.2 c.args.n (omega arith)).short)
 
 pub returns : goal.returns
 returns c =
-    let s = c in
-    worded (s.requires.2 s.args.n (omega arith)) c.add_word.ensures
+    worded (c.requires.2 c.args.n (omega arith)) c.add_word.ensures

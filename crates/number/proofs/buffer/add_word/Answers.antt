@@ -5,5 +5,4 @@ use Rattle.number.proofs.buffer.add_word.Goals as goal
 
 pub returns : goal.returns
 returns c =
-    let s = c in
-    word_kept s.args.w s.requires.0 s.requires.1 c.store_word.ensures
+    word_kept c.args.w c.requires.0 c.requires.1 c.store_word.ensures

@@ -23,10 +23,9 @@ word_before-requires-in-loop-last c = omega (arith, word_count (last_word (goal.
 pub loop-last-preserved : goal.loop-last-preserved
 loop-last-preserved c =
     let l = c.loop-last in
-    let s = c in
     let f = c.first_byte-first in
     let w = word_on (byte_text f.result) (last_word (goal.at.loop-last-preserved c).After-word_before) c.word_before-in-loop-last.ensures in
-    (places-more _ _ (omega arith) l.invariant.0 (rw (f.ensures, short-digits s.args.tens l.last s.requires.0 (omega arith)) at w), omega arith)
+    (places-more _ _ (omega arith) l.invariant.0 (rw (f.ensures, short-digits c.args.tens l.last c.requires.0 (omega arith)) at w), omega arith)
 
 pub returns : goal.returns
 returns c =

@@ -9,4 +9,4 @@ pub returns-then-b-eq0 : goal.returns-then-b-eq0
 returns-then-b-eq0 c = rw c.if-b-eq0.true (record { text = refl; short = omega arith })
 
 pub returns : goal.returns
-returns c = let s = c in byte-before s.args.b s.args.w (omega arith) c.if-b-eq0.false s.requires
+returns c = byte-before c.args.b c.args.w (omega arith) c.if-b-eq0.false c.requires

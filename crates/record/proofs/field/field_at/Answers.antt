@@ -16,12 +16,10 @@ returns-then-left-lt3 c =
 
 pub returns-then-left-length : goal.returns-then-left-length
 returns-then-left-length c =
-    let h = c in
-    let a = h.args in
-    short a.bytes.now a.at _ c.length_of-length.ensures h.if-left-lt3.false c.if-left-length.true
+    let a = c.args in
+    short a.bytes.now a.at _ c.length_of-length.ensures c.if-left-lt3.false c.if-left-length.true
 
 pub returns : goal.returns
 returns c =
-    let h = c in
-    let a = h.args in
-    found a.bytes.now a.at _ c.length_of-length.ensures h.if-left-lt3.false c.if-left-length.false
+    let a = c.args in
+    found a.bytes.now a.at _ c.length_of-length.ensures c.if-left-lt3.false c.if-left-length.false

@@ -27,23 +27,22 @@ returns-in-Cut c = cut_off c.loop-tag.invariant (is_cut _ _ _ (sym c.in-Cut.is �
 pub slice_bounds-put_payload-count : goal.slice_bounds-put_payload-count
 slice_bounds-put_payload-count c =
     let field_found-here : WholeAt c.args.bytes.now c.loop-tag.at c.in-Whole.tag c.in-Whole.start c.in-Whole.end = whole-at _ _ _ _ _ (sym c.in-Whole.is ∙ c.field_at-field.ensures) in
-    (field_found-here).order
+    field_found-here.order
 
 pub slice_bounds-put_payload-start : goal.slice_bounds-put_payload-start
 slice_bounds-put_payload-start c =
     let field_found-here : WholeAt c.args.bytes.now c.loop-tag.at c.in-Whole.tag c.in-Whole.start c.in-Whole.end = whole-at _ _ _ _ _ (sym c.in-Whole.is ∙ c.field_at-field.ensures) in
-    (field_found-here).order
+    field_found-here.order
 
 pub slice_bounds-put_payload-end : goal.slice_bounds-put_payload-end
 slice_bounds-put_payload-end c =
     let field_found-here : WholeAt c.args.bytes.now c.loop-tag.at c.in-Whole.tag c.in-Whole.start c.in-Whole.end = whole-at _ _ _ _ _ (sym c.in-Whole.is ∙ c.field_at-field.ensures) in
-    (field_found-here).within
+    field_found-here.within
 
 pub put_payload-count-requires : goal.put_payload-count-requires
 put_payload-count-requires c =
     let field_found-here : WholeAt c.args.bytes.now c.loop-tag.at c.in-Whole.tag c.in-Whole.start c.in-Whole.end = whole-at _ _ _ _ _ (sym c.in-Whole.is ∙ c.field_at-field.ensures) in
-    let f = c in
-    has_room f.loop-tag.invariant (field_found-here) c.if-tag-eq2.true
+    has_room c.loop-tag.invariant field_found-here c.if-tag-eq2.true
 
 pub loop-tag-smaller-then-tag-eq2 : goal.loop-tag-smaller-then-tag-eq2
 loop-tag-smaller-then-tag-eq2 c =
@@ -53,9 +52,7 @@ loop-tag-smaller-then-tag-eq2 c =
 pub loop-tag-preserved-then-tag-eq2 : goal.loop-tag-preserved-then-tag-eq2
 loop-tag-preserved-then-tag-eq2 c =
     let field_found-here : WholeAt c.args.bytes.now c.loop-tag.at c.in-Whole.tag c.in-Whole.start c.in-Whole.end = whole-at _ _ _ _ _ (sym c.in-Whole.is ∙ c.field_at-field.ensures) in
-    let t = c in
-    let f = t in
-    step f.loop-tag.invariant (field_found-here) t.if-tag-eq2.true c.put_payload-count.ensures
+    step c.loop-tag.invariant field_found-here c.if-tag-eq2.true c.put_payload-count.ensures
 
 pub loop-tag-smaller : goal.loop-tag-smaller
 loop-tag-smaller c =
@@ -65,5 +62,4 @@ loop-tag-smaller c =
 pub loop-tag-preserved : goal.loop-tag-preserved
 loop-tag-preserved c =
     let field_found-here : WholeAt c.args.bytes.now c.loop-tag.at c.in-Whole.tag c.in-Whole.start c.in-Whole.end = whole-at _ _ _ _ _ (sym c.in-Whole.is ∙ c.field_at-field.ensures) in
-    let f = c in
-    skip f.loop-tag.invariant (field_found-here) c.if-tag-eq2.false
+    skip c.loop-tag.invariant field_found-here c.if-tag-eq2.false

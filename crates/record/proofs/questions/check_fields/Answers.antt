@@ -14,46 +14,41 @@ loop-no-init c = starts c.args.bytes.now
 
 pub returns-then-at-eq0 : goal.returns-then-at-eq0
 returns-then-at-eq0 c =
-    let m = c in
-    let none = is-end _ _ (sym m.in-End.is ∙ m.field_at-field.ensures) in
-    empty m.loop-no.invariant none c.if-at-eq0.true c.refused_by.ensures
+    let none = is-end _ _ (sym c.in-End.is ∙ c.field_at-field.ensures) in
+    empty c.loop-no.invariant none c.if-at-eq0.true c.refused_by.ensures
 
 pub returns-in-End : goal.returns-in-End
 returns-in-End c =
-    let m = c in
-    done m.loop-no.invariant (is-end _ _ (sym m.in-End.is ∙ m.field_at-field.ensures)) c.if-at-eq0.false
+    done c.loop-no.invariant (is-end _ _ (sym c.in-End.is ∙ c.field_at-field.ensures)) c.if-at-eq0.false
 
 pub returns-in-Cut : goal.returns-in-Cut
 returns-in-Cut c =
-    let m = c in
-    cut_off m.loop-no.invariant (is_cut _ _ _ (sym m.in-Cut.is ∙ m.field_at-field.ensures)) c.refused_by-in-Cut.ensures
+    cut_off c.loop-no.invariant (is_cut _ _ _ (sym c.in-Cut.is ∙ c.field_at-field.ensures)) c.refused_by-in-Cut.ensures
 
 pub slice_bounds-payload-count : goal.slice_bounds-payload-count
 slice_bounds-payload-count c =
     let field_found-here : WholeAt c.args.bytes.now c.loop-no.at c.in-Whole.tag c.in-Whole.start c.in-Whole.end = whole-at _ _ _ _ _ (sym c.in-Whole.is ∙ c.field_at-field.ensures) in
-    (field_found-here).order
+    field_found-here.order
 
 pub slice_bounds-payload-start : goal.slice_bounds-payload-start
 slice_bounds-payload-start c =
     let field_found-here : WholeAt c.args.bytes.now c.loop-no.at c.in-Whole.tag c.in-Whole.start c.in-Whole.end = whole-at _ _ _ _ _ (sym c.in-Whole.is ∙ c.field_at-field.ensures) in
-    (field_found-here).order
+    field_found-here.order
 
 pub slice_bounds-payload-end : goal.slice_bounds-payload-end
 slice_bounds-payload-end c =
     let field_found-here : WholeAt c.args.bytes.now c.loop-no.at c.in-Whole.tag c.in-Whole.start c.in-Whole.end = whole-at _ _ _ _ _ (sym c.in-Whole.is ∙ c.field_at-field.ensures) in
-    (field_found-here).within
+    field_found-here.within
 
 pub returns-then-no-ne0 : goal.returns-then-no-ne0
 returns-then-no-ne0 c =
     let field_found-here : WholeAt c.args.bytes.now c.loop-no.at c.in-Whole.tag c.in-Whole.start c.in-Whole.end = whole-at _ _ _ _ _ (sym c.in-Whole.is ∙ c.field_at-field.ensures) in
-    let f = c in
-    turned_down f.loop-no.invariant (field_found-here) c.field_no-no.ensures c.if-no-ne0.true c.refused_by-then-no-ne0.ensures
+    turned_down c.loop-no.invariant field_found-here c.field_no-no.ensures c.if-no-ne0.true c.refused_by-then-no-ne0.ensures
 
 pub overflow_add-measures : goal.overflow_add-measures
 overflow_add-measures c =
     let field_found-here : WholeAt c.args.bytes.now c.loop-no.at c.in-Whole.tag c.in-Whole.start c.in-Whole.end = whole-at _ _ _ _ _ (sym c.in-Whole.is ∙ c.field_at-field.ensures) in
-    let f = c in
-    omega (arith, f.loop-no.invariant.few, field_found-here)
+    omega (arith, c.loop-no.invariant.few, field_found-here)
 
 pub loop-no-smaller-then-tag-eq1 : goal.loop-no-smaller-then-tag-eq1
 loop-no-smaller-then-tag-eq1 c =
@@ -63,8 +58,7 @@ loop-no-smaller-then-tag-eq1 c =
 pub loop-no-preserved-then-tag-eq1 : goal.loop-no-preserved-then-tag-eq1
 loop-no-preserved-then-tag-eq1 c =
     let field_found-here : WholeAt c.args.bytes.now c.loop-no.at c.in-Whole.tag c.in-Whole.start c.in-Whole.end = whole-at _ _ _ _ _ (sym c.in-Whole.is ∙ c.field_at-field.ensures) in
-    let f = c in
-    a-name f.loop-no.invariant (field_found-here) c.field_no-no.ensures c.if-no-ne0.false c.if-tag-eq1.true
+    a-name c.loop-no.invariant field_found-here c.field_no-no.ensures c.if-no-ne0.false c.if-tag-eq1.true
 
 pub loop-no-smaller : goal.loop-no-smaller
 loop-no-smaller c =
@@ -74,5 +68,4 @@ loop-no-smaller c =
 pub loop-no-preserved : goal.loop-no-preserved
 loop-no-preserved c =
     let field_found-here : WholeAt c.args.bytes.now c.loop-no.at c.in-Whole.tag c.in-Whole.start c.in-Whole.end = whole-at _ _ _ _ _ (sym c.in-Whole.is ∙ c.field_at-field.ensures) in
-    let f = c in
-    some-densities f.loop-no.invariant (field_found-here) c.field_no-no.ensures c.if-no-ne0.false c.if-tag-eq1.false
+    some-densities c.loop-no.invariant field_found-here c.field_no-no.ensures c.if-no-ne0.false c.if-tag-eq1.false

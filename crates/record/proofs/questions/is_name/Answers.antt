@@ -20,13 +20,11 @@ returns-then-payload-i-lt32 c = below c.loop-i.invariant c.loop-i-test.true c.if
 
 pub returns-then-payload-i-gt126 : goal.returns-then-payload-i-gt126
 returns-then-payload-i-gt126 c =
-    let t = c in
-    above t.loop-i.invariant t.loop-i-test.true c.if-payload-i-lt32.false c.if-payload-i-gt126.true
+    above c.loop-i.invariant c.loop-i-test.true c.if-payload-i-lt32.false c.if-payload-i-gt126.true
 
 pub loop-i-preserved : goal.loop-i-preserved
 loop-i-preserved c =
-    let t = c in
-    step t.loop-i.invariant t.loop-i-test.true c.if-payload-i-lt32.false c.if-payload-i-gt126.false
+    step c.loop-i.invariant c.loop-i-test.true c.if-payload-i-lt32.false c.if-payload-i-gt126.false
 
 pub returns : goal.returns
 returns c = done c.loop-i.invariant c.loop-i-test.false

@@ -1,14 +1,11 @@
 -- `segments::steps::count_segments` meets its contract. The loop's invariant: n segments, and those from the cursor on, are all.
 -- Assumes nothing.
 use Prim.Native.Nat.{◌+◌}
-use mathlib.Core.Path.{◌≡◌, sym, ap, ◌∙◌}
-use native.Mathlib.Omega.{arith}
+use mathlib.Core.Path.{◌≡◌}
 use lib.ListN.{length}
-use borrow.Author.Rules.{rules}
 use Rattle.rules.specs.Chart.{classes}
 use Rattle.rules.specs.Calls.{segments}
 use Rattle.segments.specs.Steps.{segments_from}
-use Rattle.segments.proofs.Stretches.{segments-few, Stepped, stepped, one_less, ended}
 use Rattle.segments.proofs.steps.count_segments.Given as goal
 
 abbrev pub invariant-loop-next : goal.invariant-loop-next

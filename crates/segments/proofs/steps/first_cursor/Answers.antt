@@ -1,7 +1,6 @@
 -- `segments::steps::first_cursor` meets its contract.
 -- Assumes nothing.
 use native.Mathlib.Omega.{arith}
-use borrow.Author.Rules.{rules}
 use Rattle.segments.proofs.Stretches.{from_start, from_last}
 use Rattle.segments.proofs.steps.first_cursor.Goals as goal
 

@@ -1,7 +1,6 @@
 -- `segments::steps::next_segment` meets its contract.
 -- Assumes nothing.
 use native.Mathlib.Omega.{arith}
-use borrow.Author.Rules.{rules}
 use Rattle.segments.proofs.Stretches.{wide_step, done-step, next-step}
 use Rattle.segments.proofs.steps.next_segment.Goals as goal
 

@@ -1,11 +1,6 @@
 -- `segments::steps::stretch_end` meets its contract. The loop's invariant: the measures from `at` up to i are of the stretch.
 -- Assumes nothing.
-use Prim.Native.Nat.{◌+◌, ◌-◌}
-use mathlib.Core.Path.{◌≡◌}
 use native.Mathlib.Omega.{arith}
-use lib.ListN.{length}
-use borrow.Author.Rules.{rules}
-use Rattle.segments.specs.Steps.{stretch}
 use Rattle.segments.proofs.Stretches.{stretch-stop, stretch-more, stretch-end}
 use Rattle.segments.proofs.steps.stretch_end.Goals as goal
 

@@ -2,11 +2,8 @@
 -- Assumes nothing.
 use Prim.Native.Nat.{◌+◌, ◌-◌}
 use mathlib.Core.Path.{◌≡◌}
-use native.Mathlib.Omega.{arith}
 use lib.ListN.{length}
-use borrow.Author.Rules.{rules}
 use Rattle.segments.specs.Steps.{stretch}
-use Rattle.segments.proofs.Stretches.{stretch-stop, stretch-more, stretch-end}
 use Rattle.segments.proofs.steps.stretch_end.Given as goal
 
 abbrev pub invariant-loop-i : goal.invariant-loop-i

@@ -1,7 +1,6 @@
 -- `segments::turns::first_no` meets its contract.
 -- Assumes nothing.
 use native.Mathlib.Omega.{arith}
-use borrow.Author.Rules.{rules}
 use Rattle.segments.proofs.Stretches.{segments-few}
 use Rattle.segments.proofs.Answers.{no-1, no-3, all_yes}
 use Rattle.segments.proofs.turns.first_no.Goals as goal

@@ -1,7 +1,6 @@
 -- `segments::turns::first_turn` meets its contract.
 -- Assumes nothing.
 use mathlib.Core.Path.{◌∙◌}
-use borrow.Author.Rules.{rules}
 use Rattle.segments.proofs.Answers.{turn-refused, turn-accepted}
 use Rattle.segments.proofs.turns.first_turn.Goals as goal
 

@@ -1,6 +1,5 @@
 -- `segments::turns::next_turn` meets its contract.
 -- Assumes nothing.
-use borrow.Author.Rules.{rules}
 use Rattle.segments.specs.Turns.{next_turn}
 use Rattle.segments.proofs.turns.next_turn.Goals as goal
 

@@ -1,6 +1,5 @@
 -- `segments::turns::turn_of` meets its contract: each arm is given which constructor the step is.
 -- Assumes nothing.
-use borrow.Author.Rules.{rules}
 use Rattle.segments.proofs.turns.turn_of.Goals as goal
 
 pub returns-in-Segment : goal.returns-in-Segment

@@ -9,7 +9,6 @@ use Rattle.text_buffer.proofs.Bytes.{run_short}
 use Rattle.number.proofs.Grown.{grown, dropped}
 use Rattle.number.proofs.Word.{worded}
 use Rattle.sn_text.proofs.SnParts.{group-short, group-long}
-use borrow.Author.Rules.{rules}
 use Rattle.sn_text.proofs.sn.add_group.Goals as goal
 
 pub add_ended-a-requires : goal.add_ended-a-requires

@@ -11,7 +11,6 @@ use Rattle.text_buffer.proofs.Bytes.{side-short}
 use Rattle.number.proofs.Grown.{grown, dropped}
 use Rattle.number.proofs.Word.{worded}
 use Rattle.sn_text.proofs.SnParts.{token-text, token-none}
-use borrow.Author.Rules.{rules}
 use Rattle.sn_text.proofs.sn.add_token.Goals as goal
 use Rattle.sn_text.proofs.sn.add_token.Goals.{After-class_word, After-class_word-2}
 
@@ -42,11 +41,11 @@ pub returns-then-class-n : goal.returns-then-class-n
 returns-then-class-n c =
     let whole-here : let a = c.args in Grown a.buf.now c.add_word-c.new.buf a.k (side 40 a.class ++ (digits a.n ++ (side 41 a.class ++ (32 ∷ [])))) c.add_word-c.result = let d = grown _ _ c.add_u64-b.ensures (worded (behind-word (goal.at.returns-then-class-n c).After-class_word-2) c.add_word-c.ensures) in
     grown _ _ (worded (before-word (goal.at.returns-then-class-n c).After-class_word) c.add_word-a.ensures) d in
-    rw (token-none c.args.class c.args.n c.if-class-n.true) (dropped _ (omega (arith, c.requires.0)) (whole-here))
+    rw (token-none c.args.class c.args.n c.if-class-n.true) (dropped _ (omega (arith, c.requires.0)) whole-here)
 
 pub returns-else-class-n : goal.returns-else-class-n
 returns-else-class-n c =
     let whole-here : let a = c.args in Grown a.buf.now c.add_word-c.new.buf a.k (side 40 a.class ++ (digits a.n ++ (side 41 a.class ++ (32 ∷ [])))) c.add_word-c.result = let d = grown _ _ c.add_u64-b.ensures (worded (behind-word (goal.at.returns-else-class-n c).After-class_word-2) c.add_word-c.ensures) in
     grown _ _ (worded (before-word (goal.at.returns-else-class-n c).After-class_word) c.add_word-a.ensures) d in
     let a = c.args in
-    rw (token-text a.class a.n c.if-class-n.false) (whole-here)
+    rw (token-text a.class a.n c.if-class-n.false) whole-here

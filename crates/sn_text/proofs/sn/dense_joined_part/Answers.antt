@@ -1,14 +1,10 @@
 -- `sn_text::sn::dense_joined_part` meets its contract: the loop's steps are `SnParts`'s.
 -- Assumes nothing.
-use Prim.Native.Nat.{◌-◌}
 use mathlib.Core.Path.{◌∙◌, sym}
 use native.Mathlib.Omega.{arith}
-use lib.ListN.{length}
-use borrow.Author.Rules.{rules}
-use Rattle.text_buffer.specs.Runs.{run_token}
 use Rattle.text_buffer.proofs.Added.{added_out}
 use Rattle.number.proofs.Grown.{within}
-use Rattle.sn_text.proofs.SnParts.{Writing, writing-starts, writing-ends, writing-joins, writing-room, writing-next, opened-at, opened-low}
+use Rattle.sn_text.proofs.SnParts.{writing-starts, writing-ends, writing-joins, writing-room, writing-next, opened-at, opened-low}
 use Rattle.sn_text.proofs.sn.dense_joined_part.Goals as goal
 
 pub loop-i-init : goal.loop-i-init

@@ -1,14 +1,13 @@
 -- `sn_text::sn::detailed_part` meets its contract: the loop's steps are `SnParts`'s.
 -- Assumes nothing.
-use Prim.Native.Nat.{◌+◌, ◌-◌, ◌≤◌, ◌<◌}
+use Prim.Native.Nat.{◌+◌, ◌-◌, ◌<◌}
 use mathlib.Core.Path.{◌∙◌}
 use native.Mathlib.Omega.{arith}
 use lib.ListN.{length}
-use borrow.Author.Rules.{rules}
 use Rattle.text_buffer.proofs.Added.{added_out}
 use Rattle.number.proofs.Grown.{within}
 use Rattle.text_buffer.proofs.Reading.{tokens-low}
-use Rattle.sn_text.proofs.SnParts.{none_written, Listing, listing-starts, listing-low, listing-room, listing-next, first-room, others-room, listing-ends}
+use Rattle.sn_text.proofs.SnParts.{none_written, listing-starts, listing-low, listing-room, listing-next, first-room, others-room, listing-ends}
 use Rattle.sn_text.proofs.sn.detailed_part.Goals as goal
 
 pub returns-then-cs-eq0 : goal.returns-then-cs-eq0

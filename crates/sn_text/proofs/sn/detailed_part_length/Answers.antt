@@ -1,11 +1,10 @@
 -- `sn_text::sn::detailed_part_length` meets its contract: the loop's steps are `SnParts`'s.
 -- Assumes nothing.
-use Prim.Native.Nat.{◌+◌, ◌-◌, ◌≤◌, ◌<◌}
+use Prim.Native.Nat.{◌+◌, ◌-◌, ◌<◌}
 use mathlib.Core.Path.{refl}
 use native.Mathlib.Omega.{arith}
 use lib.ListN.{length}
-use borrow.Author.Rules.{rules}
-use Rattle.sn_text.proofs.SnParts.{none-measured, Summing, summing-starts, summing-next, summing-ends}
+use Rattle.sn_text.proofs.SnParts.{none-measured, summing-starts, summing-next, summing-ends}
 use Rattle.sn_text.proofs.sn.detailed_part_length.Goals as goal
 
 pub returns-then-cs-eq0 : goal.returns-then-cs-eq0

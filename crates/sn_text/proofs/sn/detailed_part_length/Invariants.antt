@@ -1,11 +1,7 @@
 -- `sn_text::sn::detailed_part_length` meets its contract: the loop's steps are `SnParts`'s.
 -- Assumes nothing.
-use Prim.Native.Nat.{◌+◌, ◌-◌, ◌≤◌, ◌<◌}
-use mathlib.Core.Path.{refl}
-use native.Mathlib.Omega.{arith}
-use lib.ListN.{length}
-use borrow.Author.Rules.{rules}
-use Rattle.sn_text.proofs.SnParts.{none-measured, Summing, summing-starts, summing-next, summing-ends}
+use Prim.Native.Nat.{◌-◌, ◌≤◌}
+use Rattle.sn_text.proofs.SnParts.{Summing}
 use Rattle.sn_text.proofs.sn.detailed_part_length.Given as goal
 
 abbrev pub invariant-loop-i : goal.invariant-loop-i

@@ -1,6 +1,5 @@
 -- `sn_text::sn::ended_length` meets its contract.
 -- Assumes nothing.
-use borrow.Author.Rules.{rules}
 use Rattle.sn_text.proofs.SnParts.{group-length}
 use Rattle.sn_text.proofs.sn.ended_length.Goals as goal
 

@@ -1,14 +1,9 @@
 -- `sn_text::sn::joined_part_length` meets its contract: the loop's steps are `SnParts`'s.
 -- Assumes nothing.
-use Prim.Native.Nat.{◌-◌}
 use mathlib.Core.Path.{sym, ◌∙◌}
-use mathlib.Core.Logic.{⊎_elim}
 use native.Mathlib.Omega.{arith}
-use lib.ListN.{length}
-use borrow.Author.Rules.{rules}
 use borrow.Author.Tests.{eq-eqb, ne_eqb}
-use Rattle.text_buffer.specs.Runs.{run_token}
-use Rattle.sn_text.proofs.SnParts.{Counting, counting-starts, counting-joins, counting-next, counting-ends, opened-at}
+use Rattle.sn_text.proofs.SnParts.{counting-starts, counting-joins, counting-next, counting-ends, opened-at}
 use Rattle.sn_text.proofs.sn.joined_part_length.Goals as goal
 use Rattle.sn_text.proofs.sn.joined_part_length.Goals.{else-joins, then-joins}
 
@@ -35,8 +30,8 @@ overflow_add-total c =
     let w = c.loop-i.invariant in
     let few = c.requires.0.few in
     elim c.if-joins.branch [
-    then-joins v ↦ omega (arith, v.more-is, w.short, w.opened.within, few)
-    | else-joins v ↦ omega (arith, v.more-is, w.short, w.opened.within, few, c.ended_length-more.ensures.short)
+      | then-joins v ↦ omega (arith, v.more-is, w.short, w.opened.within, few)
+      | else-joins v ↦ omega (arith, v.more-is, w.short, w.opened.within, few, c.ended_length-more.ensures.short)
     ]
 
 pub loop-i-smaller : goal.loop-i-smaller
@@ -49,9 +44,9 @@ loop-i-preserved c =
     let j = c.join_class in
     let d = c.next_run-t.result.class in
     elim c.if-joins.branch [
-    then-joins v ↦ rw (v.more-is, v.n-is, eq-eqb _ _ v.if-joins.true) (counting-joins w a (v.if-joins.true ∙ j.ensures) (omega arith) (omega arith))
-    | else-joins v ↦ rw (v.more-is, v.n-is, ne_eqb _ _ v.if-joins.false) (counting-next w a (λ e. v.if-joins.false (e ∙ sym j.ensures)) (omega arith)
-    c.ended_length-more.ensures)
+      | then-joins v ↦ rw (v.more-is, v.n-is, eq-eqb _ _ v.if-joins.true) (counting-joins w a (v.if-joins.true ∙ j.ensures) (omega arith) (omega arith))
+      | else-joins v ↦ rw (v.more-is, v.n-is, ne_eqb _ _ v.if-joins.false) (counting-next w a (λ e. v.if-joins.false (e ∙ sym j.ensures)) (omega arith)
+          c.ended_length-more.ensures)
     ]
 
 pub returns : goal.returns

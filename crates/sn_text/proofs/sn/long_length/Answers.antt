@@ -1,7 +1,5 @@
 -- `sn_text::sn::long_length` meets its contract.
 -- Assumes nothing.
-use mathlib.Core.Logic.{⊎_elim}
-use borrow.Author.Rules.{rules}
 use Rattle.sn_text.proofs.SnParts.{long-none, long-parens, long-sign}
 use Rattle.sn_text.proofs.sn.long_length.Goals as goal
 use Rattle.sn_text.proofs.sn.long_length.Goals.{else-limit-eq0, then-limit-eq0}
@@ -10,8 +8,8 @@ pub returns-then-gap-limit : goal.returns-then-gap-limit
 returns-then-gap-limit c =
     let s = c.args in
     elim c.if-limit-eq0.branch [
-    then-limit-eq0 w ↦ rw w.wide-is (long-parens s.limit s.gap w.if-limit-eq0.true c.if-gap-limit.true w.digit_count.ensures)
-    | else-limit-eq0 w ↦ rw w.wide-is (long-sign s.limit s.gap w.if-limit-eq0.false c.if-gap-limit.true)
+      | then-limit-eq0 w ↦ rw w.wide-is (long-parens s.limit s.gap w.if-limit-eq0.true c.if-gap-limit.true w.digit_count.ensures)
+      | else-limit-eq0 w ↦ rw w.wide-is (long-sign s.limit s.gap w.if-limit-eq0.false c.if-gap-limit.true)
     ]
 
 pub returns-else-gap-limit : goal.returns-else-gap-limit

@@ -3,9 +3,7 @@
 use Prim.Native.Nat.{◌+◌, ◌<◌}
 use mathlib.Core.Path.{◌≡◌, ap, ◌∙◌}
 use mathlib.Core.Bool.{Bool, cond}
-use mathlib.Core.Logic.{⊎_elim}
 use native.Mathlib.Omega.{arith}
-use borrow.Author.Rules.{rules}
 use borrow.Author.Tests.{eqb-true, eqb-false}
 use lib.Dec.{eqb}
 use lib.ListN.{length, get_or}
@@ -47,12 +45,12 @@ returns c =
     (λ e.
     let h = g ∙ ap (λ (b : Bool). cond b n 0) e in
     elim c.if-broken.branch [
-    then-broken w ↦ let two : c.args.i + 1 + 1 ≡ c.args.i + 2 = omega arith in rw (h, w.j-is, two) (break-next c.requires (eqb-true first 0 e))
-    | else-broken w ↦ absurd (w.if-broken.false (eqb-true first 0 e))
+      | then-broken w ↦ let two : c.args.i + 1 + 1 ≡ c.args.i + 2 = omega arith in rw (h, w.j-is, two) (break-next c.requires (eqb-true first 0 e))
+      | else-broken w ↦ absurd (w.if-broken.false (eqb-true first 0 e))
     ])
     (λ e.
     let h = g ∙ ap (λ (b : Bool). cond b n 0) e in
     elim c.if-broken.branch [
-    then-broken w ↦ absurd (eqb-false first 0 e w.if-broken.true)
-    | else-broken w ↦ rw (h, w.j-is) (run-next c.requires (eqb-false first 0 e))
+      | then-broken w ↦ absurd (eqb-false first 0 e w.if-broken.true)
+      | else-broken w ↦ rw (h, w.j-is) (run-next c.requires (eqb-false first 0 e))
     ])

@@ -4,7 +4,6 @@ use Prim.Native.Nat.{◌+◌}
 use mathlib.Core.Path.{◌≡◌}
 use native.Mathlib.Omega.{arith}
 use Rattle.sn_text.proofs.SnParts.{run-next, break-next}
-use borrow.Author.Rules.{rules}
 use Rattle.sn_text.proofs.sn.run_place.Goals as goal
 
 pub returns-then-cs-i-eq0 : goal.returns-then-cs-i-eq0

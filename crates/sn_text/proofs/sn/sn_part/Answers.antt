@@ -1,6 +1,5 @@
 -- `sn_text::sn::sn_part` meets its contract.
 -- Assumes nothing.
-use borrow.Author.Rules.{rules}
 use Rattle.sn_text.proofs.sn.sn_part.Goals as goal
 
 pub detailed_part-requires : goal.detailed_part-requires

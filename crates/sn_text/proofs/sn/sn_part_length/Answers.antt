@@ -1,6 +1,5 @@
 -- `sn_text::sn::sn_part_length` meets its contract.
 -- Assumes nothing.
-use borrow.Author.Rules.{rules}
 use Rattle.sn_text.proofs.sn.sn_part_length.Goals as goal
 
 pub returns-then-limit-eq0 : goal.returns-then-limit-eq0

@@ -2,7 +2,6 @@
 -- Assumes nothing.
 use native.Mathlib.Omega.{arith}
 use lib.ListN.{length-append}
-use borrow.Author.Rules.{rules}
 use Rattle.sn_text.proofs.SnParts.{token-text, token-none}
 use Rattle.sn_text.proofs.sn.token_length.Goals as goal
 

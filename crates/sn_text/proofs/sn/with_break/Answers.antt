@@ -1,7 +1,6 @@
 -- `sn_text::sn::with_break` meets its contract.
 -- Assumes nothing.
 use mathlib.Core.Path.{refl}
-use borrow.Author.Rules.{rules}
 use Rattle.sn_text.proofs.SnParts.{near-shown, else-shown}
 use Rattle.sn_text.proofs.sn.with_break.Goals as goal
 

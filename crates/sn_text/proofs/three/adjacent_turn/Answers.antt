@@ -1,7 +1,6 @@
 -- `sn_text::three::adjacent_turn` meets its contract.
 -- Assumes nothing.
 use mathlib.Core.Path.{refl}
-use borrow.Author.Rules.{rules}
 use Rattle.sn_text.proofs.SnParts.{adjacent-text}
 use Rattle.sn_text.proofs.SnThree.{turned_apart}
 use Rattle.sn_text.proofs.three.adjacent_turn.Goals as goal

@@ -3,7 +3,6 @@
 use mathlib.Core.List.{[], ◌∷◌}
 use native.Mathlib.Omega.{arith}
 use lib.ListN.{length-append}
-use borrow.Author.Rules.{rules}
 use Rattle.text_buffer.specs.Runs.{run_text}
 use Rattle.text_buffer.proofs.Bytes.{run_short}
 use Rattle.number.proofs.Grown.{grown}

@@ -1,7 +1,6 @@
 -- `sn_text::three::joined_turn` meets its contract.
 -- Assumes nothing.
 use mathlib.Core.Path.{sym, ◌∙◌}
-use borrow.Author.Rules.{rules}
 use Rattle.sn_text.proofs.SnThree.{turned_apart, turned-joins}
 use Rattle.sn_text.proofs.three.joined_turn.Goals as goal
 

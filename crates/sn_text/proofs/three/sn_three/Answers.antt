@@ -1,6 +1,5 @@
 -- `sn_text::three::sn_three` meets its contract.
 -- Assumes nothing.
-use borrow.Author.Rules.{rules}
 use Rattle.sn_text.proofs.SnThree.{opened-written}
 use Rattle.sn_text.proofs.three.sn_three.Goals as goal
 

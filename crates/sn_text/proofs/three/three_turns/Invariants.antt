@@ -1,13 +1,9 @@
 -- `sn_text::three::three_turns` meets its contract: each text's steps are `SnThree`'s.
 -- Assumes nothing.
 use Prim.Native.Nat.{◌-◌}
-use mathlib.Core.Logic.{⊎_elim}
-use native.Mathlib.Omega.{arith}
 use lib.ListN.{length}
-use borrow.Author.Rules.{rules}
 use Rattle.text_buffer.specs.Runs.{run_token}
-use Rattle.sn_text.proofs.SnParts.{opened-at, no-break, some-break}
-use Rattle.sn_text.proofs.SnThree.{Walking, walking-starts, walking-low, walking-room, walking-few, walking-next, walking-ends}
+use Rattle.sn_text.proofs.SnThree.{Walking}
 use Rattle.sn_text.proofs.three.three_turns.Given as goal
 
 abbrev pub invariant-loop-i : goal.invariant-loop-i

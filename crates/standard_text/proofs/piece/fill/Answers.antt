@@ -1,11 +1,7 @@
 -- `standard_text::piece::fill` meets its contract.
 -- Assumes nothing.
-use Prim.Native.Nat.{◌+◌, ◌-◌, ◌≤◌, ◌<◌, ◌^◌}
 use mathlib.Core.Path.{◌∙◌}
-use mathlib.Core.Logic.{⊎_elim}
 use native.Mathlib.Omega.{arith}
-use lib.ListN as List
-use Rattle.standard_text.specs.Filled.{Filled, Long}
 use Rattle.standard_text.proofs.StandardParts.{filled-starts, turned, long-still}
 use borrow.Author.Tests.{eq-eqb, ne_eqb, lt-ltb, le-ltb}
 use Rattle.standard_text.proofs.piece.fill.Goals as goal
@@ -16,8 +12,8 @@ loop-j-init c =
     let p = c.requires in
     let h = filled-starts _ _ _ _ _ _ p.0 in
     elim c.if-left-lt16.branch [
-    then-left-lt16 w ↦ (h, p.1, omega (arith, w.end-is, p.0.within), omega (arith, w.end-is), omega (arith, w.end-is), (λ l. omega (arith, w.end-is)), p.2)
-    | else-left-lt16 w ↦ (h, p.1, omega (arith, w.end-is), omega (arith, w.end-is), omega (arith, w.end-is), (λ l. omega (arith, w.end-is)), p.2)
+      | then-left-lt16 w ↦ (h, p.1, omega (arith, w.end-is, p.0.within), omega (arith, w.end-is), omega (arith, w.end-is), (λ l. omega (arith, w.end-is)), p.2)
+      | else-left-lt16 w ↦ (h, p.1, omega (arith, w.end-is), omega (arith, w.end-is), omega (arith, w.end-is), (λ l. omega (arith, w.end-is)), p.2)
     ]
 
 pub piece_on-open-requires : goal.piece_on-open-requires

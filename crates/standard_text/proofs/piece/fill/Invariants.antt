@@ -1,12 +1,8 @@
 -- `standard_text::piece::fill` meets its contract.
 -- Assumes nothing.
 use Prim.Native.Nat.{◌+◌, ◌-◌, ◌≤◌, ◌<◌, ◌^◌}
-use mathlib.Core.Path.{◌∙◌}
-use mathlib.Core.Logic.{⊎_elim}
-use native.Mathlib.Omega.{arith}
 use lib.ListN as List
 use Rattle.standard_text.specs.Filled.{Filled, Long}
-use Rattle.standard_text.proofs.StandardParts.{filled-starts, turned, long-still}
 use Rattle.standard_text.proofs.piece.fill.Given as goal
 
 abbrev pub invariant-loop-j : goal.invariant-loop-j

@@ -1,7 +1,6 @@
 -- `standard_text::piece::piece_on` meets its contract.
 -- Assumes nothing.
 use mathlib.Core.Path.{refl}
-use borrow.Author.Rules.{rules}
 use Rattle.standard_text.proofs.piece.piece_on.Goals as goal
 
 pub returns : goal.returns

@@ -2,7 +2,6 @@
 -- Assumes nothing.
 use native.Mathlib.Omega.{arith}
 use Rattle.number.proofs.Word.{worded}
-use borrow.Author.Rules.{rules}
 use Rattle.standard_text.proofs.standard.add_gap.Goals as goal
 
 pub add_word-requires : goal.add_word-requires

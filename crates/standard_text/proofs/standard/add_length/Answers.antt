@@ -5,7 +5,6 @@ use native.Mathlib.Omega.{arith}
 use borrow.Author.Tests.{eq-eqb, ne_eqb}
 use Rattle.number.proofs.Grown.{grown, dropped, within}
 use Rattle.text_buffer.proofs.Bytes.{byte-short, in-parens}
-use borrow.Author.Rules.{rules}
 use Rattle.standard_text.proofs.standard.add_length.Goals as goal
 
 pub add_in_parens-b-requires : goal.add_in_parens-b-requires

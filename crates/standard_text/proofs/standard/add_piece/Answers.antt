@@ -4,7 +4,6 @@ use native.Mathlib.Omega.{arith}
 use Rattle.number.proofs.Digits.{at_most}
 use Rattle.text_buffer.proofs.Bytes.{star-short}
 use Rattle.number.proofs.Grown.{grown}
-use borrow.Author.Rules.{rules}
 use Rattle.standard_text.proofs.standard.add_piece.Goals as goal
 
 pub add_star-b-requires : goal.add_star-b-requires

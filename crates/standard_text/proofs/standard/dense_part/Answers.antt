@@ -1,12 +1,9 @@
 -- `standard_text::standard::dense_part` meets its contract.
 -- Assumes nothing.
-use Prim.Native.Nat.{◌-◌}
 use mathlib.Core.Path.{refl}
 use native.Mathlib.Omega.{arith}
-use lib.ListN as List
-use Rattle.standard_text.specs.Filled.{Long}
 use Rattle.text_buffer.proofs.Added.{added_out}
-use Rattle.standard_text.proofs.StandardParts.{Parted, filled-step, part-starts, part_room, part_step, part_end}
+use Rattle.standard_text.proofs.StandardParts.{filled-step, part-starts, part_room, part_step, part_end}
 use Rattle.standard_text.proofs.standard.dense_part.Goals as goal
 
 pub loop-i-init : goal.loop-i-init

@@ -2,7 +2,6 @@
 -- Assumes nothing.
 use lib.ListN.{length-append}
 use native.Mathlib.Omega.{arith}
-use borrow.Author.Rules.{rules}
 use Rattle.standard_text.proofs.standard.done_length.Goals as goal
 
 pub returns : goal.returns

@@ -1,10 +1,7 @@
 -- `standard_text::standard::put_pieces` meets its contract.
 -- Assumes nothing.
-use Prim.Native.Nat.{◌-◌, ◌≤◌}
 use mathlib.Core.Path.{◌≡◌}
 use native.Mathlib.Omega.{arith}
-use Rattle.text_buffer.specs.Buffer.{Added}
-use Rattle.standard_text.specs.Filled.{done_texts}
 use Rattle.number.proofs.Grown.{within}
 use Rattle.text_buffer.proofs.Added.{added_none, added_out}
 use Rattle.standard_text.proofs.StandardParts.{done-room, done-step}

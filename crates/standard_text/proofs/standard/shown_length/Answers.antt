@@ -4,7 +4,6 @@ use native.Mathlib.Omega.{arith}
 use borrow.Author.Tests.{eq-eqb, ne_eqb}
 use lib.ListN.{length-append}
 use Rattle.text_buffer.proofs.Bytes.{sign-short, sign-long}
-use borrow.Author.Rules.{rules}
 use Rattle.standard_text.proofs.standard.shown_length.Goals as goal
 
 pub returns-then-n-le31 : goal.returns-then-n-le31

@@ -1,11 +1,8 @@
 -- `standard_text::standard::standard_part` meets its contract.
 -- Assumes nothing.
 use Prim.Native.Nat.{◌-◌}
-use native.Mathlib.Omega.{arith}
 use lib.ListN as List
-use Rattle.number.proofs.Grown.{within}
-use Rattle.text_buffer.proofs.Added.{added_none, added_out, grown-added}
-use Rattle.standard_text.proofs.StandardParts.{Parted, run_step, over-step, apart-step, part-starts, part_room, part_step, part_end}
+use Rattle.standard_text.proofs.StandardParts.{Parted}
 use Rattle.standard_text.proofs.standard.standard_part.Given as goal
 
 abbrev pub invariant-loop-i : goal.invariant-loop-i

@@ -1,11 +1,9 @@
 -- `standard_text::standard::standard_part_length` meets its contract.
 -- Assumes nothing.
-use Prim.Native.Nat.{◌-◌}
 use native.Mathlib.Nat.{add-zero}
 use mathlib.Core.Path.{refl, sym}
 use native.Mathlib.Omega.{arith}
-use lib.ListN as List
-use Rattle.standard_text.proofs.StandardParts.{Counting, counting-starts, counting-step, counting-end, run_step, over-step, apart-step, nothing}
+use Rattle.standard_text.proofs.StandardParts.{counting-starts, counting-step, counting-end, run_step, over-step, apart-step, nothing}
 use Rattle.standard_text.proofs.standard.standard_part_length.Goals as goal
 
 pub loop-i-init : goal.loop-i-init

@@ -1,11 +1,8 @@
 -- `standard_text::standard::standard_part_length` meets its contract.
 -- Assumes nothing.
 use Prim.Native.Nat.{◌-◌}
-use native.Mathlib.Nat.{add-zero}
-use mathlib.Core.Path.{refl, sym}
-use native.Mathlib.Omega.{arith}
 use lib.ListN as List
-use Rattle.standard_text.proofs.StandardParts.{Counting, counting-starts, counting-step, counting-end, run_step, over-step, apart-step, nothing}
+use Rattle.standard_text.proofs.StandardParts.{Counting}
 use Rattle.standard_text.proofs.standard.standard_part_length.Given as goal
 
 abbrev pub invariant-loop-i : goal.invariant-loop-i

@@ -2,7 +2,6 @@
 -- Assumes nothing.
 use mathlib.Core.Bool.{true}
 use native.Mathlib.Omega.{arith}
-use borrow.Author.Rules.{rules}
 use Rattle.number.proofs.Grown.{grown-none}
 use Rattle.standard_text.proofs.StandardThree.{turned-over, turned_apart, done-short}
 use Rattle.standard_text.proofs.three.simple_turn.Goals as goal

@@ -1,7 +1,6 @@
 -- `standard_text::three::standard_three` meets its contract.
 -- Assumes nothing.
 use native.Mathlib.Omega.{arith}
-use borrow.Author.Rules.{rules}
 use Rattle.number.proofs.Digits.{at_most}
 use Rattle.number.proofs.Grown.{grown-none}
 use Rattle.standard_text.proofs.StandardThree.{opened-ends}

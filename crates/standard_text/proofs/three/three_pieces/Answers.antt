@@ -1,10 +1,7 @@
 -- `standard_text::three::three_pieces` meets its contract.
 -- Assumes nothing.
-use Prim.Native.Nat.{◌-◌}
-use mathlib.Core.Bool.{true, false}
 use native.Mathlib.Omega.{arith}
-use lib.ListN as List
-use Rattle.standard_text.proofs.StandardThree.{Walking, walking-starts, walking_run, gap_at, gap-few}
+use Rattle.standard_text.proofs.StandardThree.{walking-starts, walking_run, gap_at, gap-few}
 use Rattle.standard_text.proofs.StandardThree.{walking-gap, walking-shown, walking-room, walking-ends}
 use Rattle.standard_text.proofs.three.three_pieces.Goals as goal
 

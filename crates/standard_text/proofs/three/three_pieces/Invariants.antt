@@ -2,10 +2,8 @@
 -- Assumes nothing.
 use Prim.Native.Nat.{◌-◌}
 use mathlib.Core.Bool.{true, false}
-use native.Mathlib.Omega.{arith}
 use lib.ListN as List
-use Rattle.standard_text.proofs.StandardThree.{Walking, walking-starts, walking_run, gap_at, gap-few}
-use Rattle.standard_text.proofs.StandardThree.{walking-gap, walking-shown, walking-room, walking-ends}
+use Rattle.standard_text.proofs.StandardThree.{Walking}
 use Rattle.standard_text.proofs.three.three_pieces.Given as goal
 
 abbrev pub invariant-loop-i : goal.invariant-loop-i

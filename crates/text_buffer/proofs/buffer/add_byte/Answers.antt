@@ -2,7 +2,6 @@
 -- Assumes nothing.
 use mathlib.Core.List.{[], ◌∷◌}
 use native.Mathlib.Omega.{arith}
-use borrow.Author.Rules.{rules}
 use Rattle.number.proofs.Word.{byte-text}
 use Rattle.number.proofs.Grown.{stored, dropped}
 use Rattle.text_buffer.proofs.buffer.add_byte.Goals as goal

@@ -1,6 +1,5 @@
 -- `text_buffer::buffer::flush` meets its contract.
 -- Assumes nothing.
-use borrow.Author.Rules.{rules}
 use Rattle.text_buffer.proofs.Added.{added_none}
 use Rattle.text_buffer.proofs.buffer.flush.Goals as goal
 

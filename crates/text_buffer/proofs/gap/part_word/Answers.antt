@@ -1,6 +1,5 @@
 -- `text_buffer::gap::part_word` meets its contract.
 -- Assumes nothing.
-use borrow.Author.Rules.{rules}
 use Rattle.text_buffer.proofs.gap.part_word.Goals as goal
 
 pub returns : goal.returns

@@ -1,6 +1,5 @@
 -- `text_buffer::gap::sign_word` meets its contract.
 -- Assumes nothing.
-use borrow.Author.Rules.{rules}
 use Rattle.text_buffer.proofs.gap.sign_word.Goals as goal
 
 pub returns : goal.returns

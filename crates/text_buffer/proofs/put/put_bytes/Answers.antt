@@ -1,13 +1,11 @@
 -- `text_buffer::put::put_bytes` meets its contract: the loop's invariant and its steps are `Reached`'s.
 -- Assumes nothing.
-use Prim.Native.Nat.{◌-◌, ◌≤◌}
 use mathlib.Core.List.{◌∷◌, []}
 use native.Mathlib.Numerals.{add-one}
 use native.Mathlib.Omega.{arith}
-use lib.ListN.{length, drop, get_or, drop_of_length-le}
+use lib.ListN.{get_or, drop_of_length-le}
 use lib.Seq.{drop-cons}
-use Rattle.number.specs.Place.{Room}
-use Rattle.text_buffer.proofs.Reached.{Reached, starts, long, room-part, on, finished}
+use Rattle.text_buffer.proofs.Reached.{starts, long, room-part, on, finished}
 use Rattle.text_buffer.proofs.put.put_bytes.Goals as goal
 
 pub loop-i-init : goal.loop-i-init

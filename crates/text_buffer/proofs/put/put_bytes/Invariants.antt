@@ -1,13 +1,9 @@
 -- `text_buffer::put::put_bytes` meets its contract: the loop's invariant and its steps are `Reached`'s.
 -- Assumes nothing.
 use Prim.Native.Nat.{◌-◌, ◌≤◌}
-use mathlib.Core.List.{◌∷◌, []}
-use native.Mathlib.Numerals.{add-one}
-use native.Mathlib.Omega.{arith}
-use lib.ListN.{length, drop, get_or, drop_of_length-le}
-use lib.Seq.{drop-cons}
+use lib.ListN.{length, drop}
 use Rattle.number.specs.Place.{Room}
-use Rattle.text_buffer.proofs.Reached.{Reached, starts, long, room-part, on, finished}
+use Rattle.text_buffer.proofs.Reached.{Reached}
 use Rattle.text_buffer.proofs.put.put_bytes.Given as goal
 
 abbrev pub invariant-loop-i : goal.invariant-loop-i

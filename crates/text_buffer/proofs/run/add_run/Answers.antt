@@ -5,7 +5,6 @@ use mathlib.Core.List.{[], ◌∷◌}
 use lib.ListN.{length-append}
 use Rattle.text_buffer.specs.Runs.{run_text}
 use Rattle.number.proofs.Grown.{but_last}
-use borrow.Author.Rules.{rules}
 use Rattle.text_buffer.proofs.run.add_run.Goals as goal
 
 pub overflow_sub-result : goal.overflow_sub-result

@@ -3,7 +3,6 @@
 use mathlib.Core.List.{[], ◌∷◌}
 use native.Mathlib.Omega.{arith}
 use Rattle.number.proofs.Grown.{stored, dropped}
-use borrow.Author.Rules.{rules}
 use Rattle.text_buffer.proofs.run.add_star.Goals as goal
 
 pub returns-then-starred : goal.returns-then-starred

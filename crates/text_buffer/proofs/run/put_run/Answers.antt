@@ -2,7 +2,6 @@
 -- Assumes nothing.
 use native.Mathlib.Omega.{arith}
 use Rattle.number.proofs.Grown.{within}
-use borrow.Author.Rules.{rules}
 use Rattle.text_buffer.proofs.run.put_run.Goals as goal
 
 pub put_buffer-requires : goal.put_buffer-requires

@@ -1,12 +1,10 @@
 -- `text_buffer::run::run_length` meets its contract.
 -- Assumes nothing.
 use mathlib.Core.Path.{◌≡◌, sym, ap, ◌∙◌}
-use mathlib.Core.Logic.{⊎_elim}
 use native.Mathlib.Omega.{arith}
 use lib.ListN.{length, length-append}
 use Rattle.rules.specs.Texts.{mark}
 use Rattle.text_buffer.proofs.Bytes.{mark-none, mark-short, mark-one}
-use borrow.Author.Rules.{rules}
 use Rattle.text_buffer.proofs.run.run_length.Goals as goal
 use Rattle.text_buffer.proofs.run.run_length.Goals.{Joined-run-lt2, then-run-lt2, else-run-lt2}
 

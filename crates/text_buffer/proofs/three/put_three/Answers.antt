@@ -1,6 +1,5 @@
 -- `text_buffer::three::put_three` meets its contract.
 -- Assumes nothing.
-use borrow.Author.Rules.{rules}
 use Rattle.number.proofs.Place.{room-first, room_next, wrote}
 use Rattle.text_buffer.proofs.three.put_three.Goals as goal
 

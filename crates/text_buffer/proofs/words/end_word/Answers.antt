@@ -10,7 +10,6 @@ use Rattle.rules.specs.Bytes.{bytes}
 use Rattle.rules.specs.Texts.{mark, star}
 use Rattle.number.specs.Word.{Word}
 use Rattle.text_buffer.specs.Words.{Words}
-use borrow.Author.Rules.{rules}
 use Rattle.text_buffer.proofs.words.end_word.Goals as goal
 
 -- the row of a star is right
@@ -26,5 +25,4 @@ pub class_word-requires : goal.class_word-requires
 class_word-requires c = (row_inside c.args.starred _ c.end_row.ensures, c.requires.1)
 
 pub returns : goal.returns
-returns c = let s = c in
-    rw (c.class_word.ensures, c.end_row.ensures) (row-right s.requires.0 s.args.class s.args.starred s.requires.1)
+returns c = rw (c.class_word.ensures, c.end_row.ensures) (row-right c.requires.0 c.args.class c.args.starred c.requires.1)

@@ -1,12 +1,8 @@
 -- `text_buffer::words::set_row` meets its contract.
 -- Assumes nothing.
 use Prim.Native.Nat.{◌-◌, ◌≤◌}
-use mathlib.Core.Path.{◌≡◌}
-use native.Mathlib.Omega.{arith}
-use borrow.Author.Rules.{rules}
 use Rattle.number.specs.PlacesSet.{PlacesSet}
 use Rattle.text_buffer.specs.Words.{class_word}
-use Rattle.number.proofs.PlacesSet.{places-none, places-more}
 use Rattle.text_buffer.proofs.words.set_row.Given as goal
 
 abbrev pub invariant-loop-class : goal.invariant-loop-class

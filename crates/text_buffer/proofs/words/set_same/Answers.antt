@@ -1,10 +1,7 @@
 -- `text_buffer::words::set_same` meets its contract.
 -- Assumes nothing.
-use Prim.Native.Nat.{◌-◌, ◌≤◌}
 use mathlib.Core.Path.{◌≡◌, refl}
 use native.Mathlib.Omega.{arith}
-use Rattle.number.specs.PlacesSet.{PlacesSet}
-use Rattle.text_buffer.specs.Words.{is_word}
 use Rattle.number.proofs.PlacesSet.{places-none, places-more}
 use Rattle.text_buffer.proofs.words.set_same.Goals as goal
 

@@ -1,11 +1,8 @@
 -- `text_buffer::words::set_same` meets its contract.
 -- Assumes nothing.
 use Prim.Native.Nat.{◌-◌, ◌≤◌}
-use mathlib.Core.Path.{◌≡◌, refl}
-use native.Mathlib.Omega.{arith}
 use Rattle.number.specs.PlacesSet.{PlacesSet}
 use Rattle.text_buffer.specs.Words.{is_word}
-use Rattle.number.proofs.PlacesSet.{places-none, places-more}
 use Rattle.text_buffer.proofs.words.set_same.Given as goal
 
 abbrev pub invariant-loop-i : goal.invariant-loop-i

@@ -2,9 +2,7 @@
 -- Assumes nothing.
 use Prim.Native.Nat.{min}
 use mathlib.Core.Path.{◌≡◌, refl, ◌∙◌}
-use mathlib.Core.Logic.{⊎_elim}
 use native.Mathlib.Omega.{arith}
-use borrow.Author.Rules.{rules}
 use Rattle.text_buffer.proofs.words.word_at.Goals as goal
 use Rattle.text_buffer.proofs.words.word_at.Goals.{Joined-n-last, then-n-last, else-n-last}
 

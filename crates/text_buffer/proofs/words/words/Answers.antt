@@ -1,7 +1,6 @@
 -- `text_buffer::words::words` meets its contract.
 -- Assumes nothing.
 use native.Mathlib.Omega.{arith}
-use borrow.Author.Rules.{rules}
 use Rattle.rules.specs.Bytes.{bytes}
 use Rattle.number.specs.Word.{Word}
 use Rattle.number.proofs.Word.{word_count, word_on}
@@ -16,7 +15,7 @@ space c = c.word_before-space.ensures
 star : (c : After-word_before-star) → Word (bytes "* ") c.word_before-star.result
 star c =
     let space-here : Word (bytes " ") c.word_before-space.result = c.word_before-space.ensures in
-    word_on (bytes "*") (space-here) c.word_before-star.ensures
+    word_on (bytes "*") space-here c.word_before-star.ensures
 
 pub word_before-star-requires : goal.word_before-star-requires
 word_before-star-requires c = omega (arith, word_count (space (goal.at.word_before-star-requires c).After-word_before-space))
@@ -32,41 +31,27 @@ word_before-bar-requires c = omega (arith, word_count (space (goal.at.word_befor
 
 pub set_row-requires-3 : goal.set_row-requires-3
 set_row-requires-3 c =
-    let w = c in
-    (omega arith, omega (arith, word_count (space (goal.at.set_row-requires-3 w).After-word_before-space)))
+    (omega arith, omega (arith, word_count (space (goal.at.set_row-requires-3 c).After-word_before-space)))
 
 pub set_row-requires-4 : goal.set_row-requires-4
 set_row-requires-4 c =
-    let w = c in
-    (omega arith, omega (arith, word_count (space (goal.at.set_row-requires-4 w).After-word_before-space)))
+    (omega arith, omega (arith, word_count (space (goal.at.set_row-requires-4 c).After-word_before-space)))
 
 pub set_row-requires-5 : goal.set_row-requires-5
 set_row-requires-5 c =
-    let w = c in
-    (omega arith, omega (arith, word_count (star (goal.at.set_row-requires-5 w).After-word_before-star)))
+    (omega arith, omega (arith, word_count (star (goal.at.set_row-requires-5 c).After-word_before-star)))
 
 pub word_before-requires-3 : goal.word_before-requires-3
 word_before-requires-3 c =
     let bar-here : Word (bytes "| ") c.word_before-bar.result = word_on (bytes "|") (space (goal.at.word_before-requires-3 c).After-word_before-space) c.word_before-bar.ensures in
-    let w = c in
-    omega (arith, word_count (bar-here))
+    omega (arith, word_count bar-here)
 
 pub returns : goal.returns
 returns c =
     let bar-here : Word (bytes "| ") c.word_before-bar.result = word_on (bytes "|") (space (goal.at.returns c).After-word_before-space) c.word_before-bar.ensures in
-    let ends = c in
-    let signs = ends in
-    let fifth = signs in
-    let fourth = fifth in
-    let third = fourth in
-    let second = third in
-    let first = second in
-    let numbers = first in
-    let bars = numbers in
-    let spaced = bars in
-    table-right (space (goal.at.returns spaced).After-word_before-space) (star (goal.at.returns bars).After-word_before-star) (word_on (bytes "-") (space (goal.at.returns spaced).After-word_before-space) bars.word_before-dash.ensures)
-    (word_on (bytes "/") (space (goal.at.returns spaced).After-word_before-space) bars.word_before-slash.ensures) (bar-here)
-    ends.word_before.ensures ends.word_before-2.ensures
-    (word_on (bytes " ") (bar-here) ends.word_before-3.ensures) numbers.set_numbers.ensures first.set_row.ensures
-    second.set_row-2.ensures third.set_row-3.ensures fourth.set_row-4.ensures fifth.set_row-5.ensures signs.set_signs.ensures
-    ends.set_signs-2.ensures
+    table-right (space (goal.at.returns c).After-word_before-space) (star (goal.at.returns c).After-word_before-star) (word_on (bytes "-") (space (goal.at.returns c).After-word_before-space) c.word_before-dash.ensures)
+    (word_on (bytes "/") (space (goal.at.returns c).After-word_before-space) c.word_before-slash.ensures) bar-here
+    c.word_before.ensures c.word_before-2.ensures
+    (word_on (bytes " ") bar-here c.word_before-3.ensures) c.set_numbers.ensures c.set_row.ensures
+    c.set_row-2.ensures c.set_row-3.ensures c.set_row-4.ensures c.set_row-5.ensures c.set_signs.ensures
+    c.set_signs-2.ensures

@@ -1,0 +1,7 @@
+-- `sheet_lines::print_sheet` meets its contract.
+-- Assumes nothing.
+use borrow.Author.Rules.{rules}
+use Rattle.sheet_lines.proofs.print_sheet.Goals as goal
+
+pub returns : goal.returns
+returns c = record { answer = rw (c.put_sheet-length.ensures.number, c.put_sheet-length.ensures.bytes) }

@@ -1,0 +1,20 @@
+-- `sn_to_standard::copy::add_kept` meets its contract.
+-- Assumes nothing.
+use Prim.Native.Nat.{◌<◌}
+use mathlib.Core.List.{[], ◌∷◌}
+use native.Mathlib.Omega.{arith}
+use lib.ListN.{length}
+use borrow.Author.Tests.{lt-ltb, le-ltb}
+use Rattle.number.proofs.Grown.{stored, dropped}
+use Rattle.sn_to_standard.proofs.copy.add_kept.Goals as goal
+
+pub returns-then-b-gt57 : goal.returns-then-b-gt57
+returns-then-b-gt57 c =
+    let long-here : c.args.k < length c.args.buf.now = omega arith in
+    let s = stored c.args.b (long-here) in
+    rw (lt-ltb 57 _ c.if-b-gt57.true) (dropped (c.args.b ∷ []) (omega (arith, long-here)) s)
+
+pub returns-else-b-gt57 : goal.returns-else-b-gt57
+returns-else-b-gt57 c =
+    let long-here : c.args.k < length c.args.buf.now = omega arith in
+    rw (le-ltb 57 _ c.if-b-gt57.false) (stored _ (long-here))

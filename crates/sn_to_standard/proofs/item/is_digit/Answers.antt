@@ -1,0 +1,10 @@
+-- `sn_to_standard::item::is_digit` meets its contract.
+-- Assumes nothing.
+use borrow.Author.Tests.{le-leb, lt-leb}
+use Rattle.sn_to_standard.proofs.item.is_digit.Goals as goal
+
+pub returns-then-b-lt48 : goal.returns-then-b-lt48
+returns-then-b-lt48 c = rw (lt-leb 48 _ c.if-b-lt48.true)
+
+pub returns : goal.returns
+returns c = rw (le-leb 48 _ c.if-b-lt48.false)
