@@ -28,9 +28,14 @@ fn print_all(rt: &impl Print, list: &[u8]) -> io::Result<()> {
     Ok(())
 }
 
+// The list that is read into `space`.
+fn print_list(rt: &(impl Input + Print), space: &mut [u8]) -> io::Result<()> {
+    let count = read_full(&mut rt.reader(), space)?;
+    print_all(rt, &space[..count])
+}
+
 fn main(rt: HostRuntime) -> io::Result<()> {
     // Room for the whole list.
     let mut space = [0u8; 524288];
-    let count = read_full(&mut rt.stdin(), &mut space)?;
-    print_all(&rt, &space[..count])
+    print_list(&rt, &mut space)
 }
