@@ -1,4 +1,4 @@
-// For the programs that run the calls over lists: the list is read, its charts and cases are found, lines of answers are put together.
+// What the programs share: an input is read whole, the charts and cases of a list are found, lines of answers are put together.
 #![tactic(auto)]
 
 pub mod cases;

@@ -1,28 +1,28 @@
-// Prints the sheet of the chart record on standard input. One byte more than it takes is read, so that a longer input is seen.
+// Prints the sheet of the chart record on standard input.
 #![tactic(auto)]
 
+ghost use Rattle.std.specs.Prelude.{IfSome, OnOk};
+ghost use Rattle.std.specs.Io.KnownBytes.{Appends};
+ghost use Rattle.sheet_lines.specs.Sheet.{sheet_bytes};
+
+use chart_list::stream::read_full;
 use sheet_lines::print_sheet;
 use std::io;
-use std::io::Read;
+use std::io::{Read, Write};
 
-// What the reader has left, from the start of `space` on, as far as it fits; the number of bytes is answered.
-fn read_full<R: Read>(reader: &mut R, space: &mut [u8]) -> io::Result<usize> {
-    let mut count = 0;
-    while count < space.len() {
-        let more = reader.read(&mut space[count..])?;
-        if more == 0 {
-            break;
-        }
-        count += more;
-    }
-    Ok(count)
-}
-
-fn main(rt: HostRuntime) -> io::Result<()> {
+// The sheet of all that the input has left. One byte more than a record may have is read, so that a longer input is seen.
+fn copy_sheet<R: Read, W: Write>(input: &mut R, output: &mut W) -> io::Result<()>
+    ensures { OnOk result (IfSome (R.remaining input.old) (λ given.
+        Appends (W.contents output.old) (W.contents output.new) (sheet_bytes given))) }
+{
     let mut space = [0u8; 16385];
-    let count = read_full(&mut rt.stdin(), &mut space)?;
+    let count = read_full(input, &mut space)?;
     let sheet = print_sheet(&space[..count]);
     let bytes = sheet.bytes;
     let length = sheet.length;
-    rt.write_all(&bytes[..length])
+    output.write_all(&bytes[..length])
+}
+
+fn main(rt: HostRuntime) -> io::Result<()> {
+    copy_sheet(&mut rt.stdin(), &mut rt.stdout())
 }
