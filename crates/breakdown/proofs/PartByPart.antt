@@ -12,7 +12,7 @@ use lib.ListN.{length, take, drop, get_or, length-append, length-drop, drop_of_l
 use lib.Seq.{drop-drop, take_all, take-length, length-take-le, get_or-take}
 use borrow.Author.Tests.{eqb-true}
 use Rattle.number.proofs.Split.{split}
-use Rattle.rules.specs.Chart.{class_of, classes, Token, token, class, runs_from, runs}
+use Rattle.rules.specs.Chart.{class_of, classes, Token, token, runs_from, runs}
 use Rattle.rules.specs.Calls.{step_at, admitted}
 use Rattle.rules.specs.declared.ViewToken.{ViewToken}
 use Rattle.rules.specs.Slices.{paired}

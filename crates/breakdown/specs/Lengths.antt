@@ -2,7 +2,6 @@
 -- Assumes nothing.
 use Rattle.std.specs.Prelude.{ℕ, ◌+◌, ◌*◌, ◌^◌, ◌≤◌, ◌≡◌, true, false, List, [], ◌∷◌, length}
 use Rattle.rules.specs.Chart.{Token}
-use Rattle.rules.specs.Reduced.{run}
 use Rattle.text_buffer.specs.Parts.{TokensBehind}
 use Rattle.text_buffer.specs.Runs.{run_text}
 use Rattle.breakdown.specs.Forms.{sn_form, standard_form, text_of, open_text, part_text, Open, OpenNext, FirstRun}

@@ -1,6 +1,5 @@
 -- `counts_line::board_counts` meets its contract.
 -- Assumes nothing.
-use borrow.Author.Rules.{rules}
 use native.Mathlib.Omega.{arith}
 use Rattle.counts_line.proofs.Answers.{board-1, board-4, board-room, board-0}
 use Rattle.counts_line.proofs.board_counts.Goals as goal

@@ -3,7 +3,6 @@
 use mathlib.Core.List.{[], ◌∷◌}
 use Rattle.number.proofs.Place.{room_next, wrote}
 use Rattle.counts_line.proofs.Numbers.{counts-room}
-use borrow.Author.Rules.{rules}
 use Rattle.counts_line.proofs.put_counts.Goals as goal
 
 pub put_numbers-end-requires : goal.put_numbers-end-requires

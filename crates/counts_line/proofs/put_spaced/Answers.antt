@@ -3,7 +3,6 @@
 use Rattle.number.specs.Digits.{padded}
 use Rattle.rules.specs.Bytes.{bytes}
 use Rattle.number.proofs.Place.{room-first, room_next, wrote}
-use borrow.Author.Rules.{rules}
 use Rattle.counts_line.proofs.put_spaced.Goals as goal
 
 pub put_bytes-a-requires : goal.put_bytes-a-requires

@@ -1,10 +1,7 @@
 -- `note_rows::place` meets its contract.
 -- Assumes nothing.
-use Prim.Native.Nat.{◌-◌}
 use native.Mathlib.Nat.{zero-add}
-use lib.ListN.{length}
-use borrow.Author.Rules.{rules}
-use Rattle.number.proofs.Place.{Putting, put-starts, put_step, put-done}
+use Rattle.number.proofs.Place.{put-starts, put_step, put-done}
 use Rattle.note_rows.proofs.place.Goals as goal
 
 pub loop-i-init : goal.loop-i-init

@@ -1,10 +1,8 @@
 -- `note_rows::place` meets its contract.
 -- Assumes nothing.
 use Prim.Native.Nat.{◌-◌}
-use native.Mathlib.Nat.{zero-add}
 use lib.ListN.{length}
-use borrow.Author.Rules.{rules}
-use Rattle.number.proofs.Place.{Putting, put-starts, put_step, put-done}
+use Rattle.number.proofs.Place.{Putting}
 use Rattle.note_rows.proofs.place.Given as goal
 
 abbrev pub invariant-loop-i : goal.invariant-loop-i

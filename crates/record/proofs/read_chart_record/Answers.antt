@@ -1,7 +1,6 @@
 -- `record::read_chart_record` meets its contract.
 -- Assumes nothing.
 use Rattle.record.proofs.Reading.{by-fields, too_many, no_place, has_room, accepts}
-use borrow.Author.Rules.{rules}
 use Rattle.record.proofs.read_chart_record.Goals as goal
 
 pub returns-then-checked-ne0 : goal.returns-then-checked-ne0

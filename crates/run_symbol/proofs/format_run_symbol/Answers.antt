@@ -2,7 +2,6 @@
 -- Assumes nothing.
 use native.Mathlib.Omega.{arith}
 use Rattle.run_symbol.proofs.Answers.{number-low, symbol-5, symbol-4, symbol-0}
-use borrow.Author.Rules.{rules}
 use Rattle.run_symbol.proofs.format_run_symbol.Goals as goal
 
 pub returns-then-c-eq0 : goal.returns-then-c-eq0
@@ -15,13 +14,12 @@ returns-then-out-run_length c =
     c.if-c-eq0.false c.if-out-run_length.true
 
 pub put_run-n-requires : goal.put_run-n-requires
-put_run-n-requires c =
-    (
-      omega arith,
-      c.words-words.ensures,
-      omega (arith, c.class_number-c.ensures, number-low c.args.class),
-      record { fits = omega (arith, c.run_length.ensures.number, c.if-out-run_length.false) },
-    )
+put_run-n-requires c = (
+  omega arith,
+  c.words-words.ensures,
+  omega (arith, c.class_number-c.ensures, number-low c.args.class),
+  record { fits = omega (arith, c.run_length.ensures.number, c.if-out-run_length.false) },
+)
 
 pub returns : goal.returns
 returns c =

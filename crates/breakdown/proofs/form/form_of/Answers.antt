@@ -3,7 +3,6 @@
 use mathlib.Core.Path.{sym, ap, ◌∙◌}
 use Rattle.rules.specs.declared.Kind.TheVariants.{Sn as sn, Standard as standard}
 use Rattle.breakdown.specs.Forms.{form_of}
-use borrow.Author.Rules.{rules}
 use Rattle.breakdown.proofs.form.form_of.Goals as goal
 
 pub returns-in-Detailed : goal.returns-in-Detailed

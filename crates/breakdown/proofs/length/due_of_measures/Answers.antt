@@ -1,16 +1,15 @@
 -- `breakdown::length::due_of_measures` meets its contract.
 -- Assumes nothing.
-use Prim.Native.Nat.{ℕ, ◌+◌, ◌-◌, ◌*◌, ◌≤◌}
+use Prim.Native.Nat.{ℕ, ◌≤◌}
 use mathlib.Core.Path.{◌≡◌, refl, sym, ap, ◌∙◌}
 use mathlib.Core.List.{List, [], ◌∷◌}
 use native.Mathlib.Omega.{arith}
 use lib.ListN.{length, drop, drop_of_length-le}
 use Rattle.rules.specs.Chart.{Token, classes, runs}
 use lib.Seq.{length-take-le}
-use Rattle.breakdown.specs.Lengths.{each, DueOf}
+use Rattle.breakdown.specs.Lengths.{DueOf}
 use Rattle.breakdown.proofs.PartByPart.{first-class, ahead, next-within, first_some, first_count, on-count, as_long, most}
-use Rattle.breakdown.proofs.Tallied.{Tallied, tally-starts, tally-ready, tally-on, tally-short, tally-ends}
-use borrow.Author.Rules.{rules}
+use Rattle.breakdown.proofs.Tallied.{tally-starts, tally-ready, tally-on, tally-short, tally-ends}
 use Rattle.breakdown.proofs.length.due_of_measures.Goals as goal
 
 none-due : (m : List ℕ) → length m ≡ 0 → DueOf (runs (classes m)) (record { tokens = 0; lengths = 0 ∷ 0 ∷ 0 ∷ 11 ∷ 11 ∷ 11 ∷ [] })

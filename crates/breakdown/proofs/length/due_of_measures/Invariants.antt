@@ -1,16 +1,11 @@
 -- `breakdown::length::due_of_measures` meets its contract.
 -- Assumes nothing.
-use Prim.Native.Nat.{ℕ, ◌+◌, ◌-◌, ◌*◌, ◌≤◌}
-use mathlib.Core.Path.{◌≡◌, refl, sym, ap, ◌∙◌}
-use mathlib.Core.List.{List, [], ◌∷◌}
-use native.Mathlib.Omega.{arith}
-use lib.ListN.{length, drop, drop_of_length-le}
-use Rattle.rules.specs.Chart.{Token, classes, runs}
-use lib.Seq.{length-take-le}
-use Rattle.breakdown.specs.Lengths.{each, DueOf}
-use Rattle.breakdown.proofs.PartByPart.{first-class, ahead, next-within, first_some, first_count, on-count, as_long, most}
-use Rattle.breakdown.proofs.Tallied.{Tallied, tally-starts, tally-ready, tally-on, tally-short, tally-ends}
-use borrow.Author.Rules.{rules}
+use Prim.Native.Nat.{◌+◌, ◌-◌, ◌*◌, ◌≤◌}
+use mathlib.Core.Path.{◌≡◌}
+use lib.ListN.{length, drop}
+use Rattle.rules.specs.Chart.{classes, runs}
+use Rattle.breakdown.specs.Lengths.{each}
+use Rattle.breakdown.proofs.Tallied.{Tallied}
 use Rattle.breakdown.proofs.length.due_of_measures.Given as goal
 
 abbrev pub invariant-loop-i : goal.invariant-loop-i

@@ -1,13 +1,11 @@
 -- `breakdown::length::length_of_measures` meets its contract.
 -- Assumes nothing.
-use Prim.Native.Nat.{◌-◌}
-use mathlib.Core.Path.{◌≡◌, refl, sym, ap, ◌∙◌}
+use mathlib.Core.Path.{refl, sym, ap, ◌∙◌}
 use native.Mathlib.Omega.{arith}
 use lib.ListN.{length}
 use lib.Seq.{length-take-le}
 use Rattle.breakdown.proofs.PartByPart.{no-measures, first-class, ahead, next-within, as_long, most}
-use Rattle.breakdown.proofs.Tallied.{Tallied, tally-starts, tally-ready, tally-on, tally-short, tally-ends}
-use borrow.Author.Rules.{rules}
+use Rattle.breakdown.proofs.Tallied.{tally-starts, tally-ready, tally-on, tally-short, tally-ends}
 use Rattle.breakdown.proofs.length.length_of_measures.Goals as goal
 
 pub returns-then-m-eq0 : goal.returns-then-m-eq0

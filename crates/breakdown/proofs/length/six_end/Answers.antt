@@ -1,7 +1,6 @@
 -- `breakdown::length::six_end` meets its contract.
 -- Assumes nothing.
 use mathlib.Core.Path.{refl}
-use borrow.Author.Rules.{rules}
 use Rattle.breakdown.proofs.length.six_end.Goals as goal
 
 pub returns : goal.returns

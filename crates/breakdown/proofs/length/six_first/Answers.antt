@@ -1,6 +1,5 @@
 -- `breakdown::length::six_first` meets its contract.
 -- Assumes nothing.
-use borrow.Author.Rules.{rules}
 use Rattle.breakdown.proofs.length.six_first.Goals as goal
 
 pub first_tally-requires : goal.first_tally-requires

@@ -1,6 +1,5 @@
 -- `breakdown::length::six_part` meets its contract.
 -- Assumes nothing.
-use borrow.Author.Rules.{rules}
 use Rattle.breakdown.proofs.length.six_part.Goals as goal
 
 pub tally_part-requires : goal.tally_part-requires

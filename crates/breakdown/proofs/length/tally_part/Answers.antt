@@ -4,7 +4,6 @@ use mathlib.Core.Path.{sym, refl, ◌∙◌}
 use mathlib.Core.Bool.{true≢false}
 use native.Mathlib.Nat.{suc-ne-zero}
 use native.Mathlib.Omega.{arith}
-use borrow.Author.Rules.{rules}
 use Rattle.breakdown.proofs.length.tally_part.Goals as goal
 
 pub returns-then-form : goal.returns-then-form

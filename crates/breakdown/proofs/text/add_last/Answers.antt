@@ -2,7 +2,6 @@
 -- Assumes nothing.
 use mathlib.Core.List.{[], append-nil}
 use native.Mathlib.Omega.{arith}
-use borrow.Author.Rules.{rules}
 use Rattle.number.proofs.Grown.{within}
 use Rattle.text_buffer.proofs.Added.{grown-room, grown-added}
 use Rattle.breakdown.proofs.text.add_last.Goals as goal

@@ -1,6 +1,5 @@
 -- `breakdown::text::add_none` meets its contract.
 -- Assumes nothing.
-use borrow.Author.Rules.{rules}
 use Rattle.number.proofs.Grown.{grown-none, wrote-grown}
 use Rattle.breakdown.proofs.text.add_none.Goals as goal
 

@@ -1,18 +1,14 @@
 -- `breakdown::text::measures_text` meets its contract.
 -- Assumes nothing.
 use Prim.Native.Nat.{◌-◌}
-use mathlib.Core.Path.{◌≡◌, refl, sym, ◌∙◌}
-use native.Mathlib.Omega.{arith}
-use borrow.Author.Rules.{rules}
+use mathlib.Core.Path.{◌≡◌}
 use lib.ListN.{length, drop}
-use lib.Seq.{length-take-le}
 use Rattle.rules.specs.Chart.{classes, runs}
 use Rattle.breakdown.specs.Forms.{text_of, open_text}
 use Rattle.text_buffer.specs.Buffer.{goes_on}
 use Rattle.text_buffer.proofs.Added as Text
 use Rattle.text_buffer.proofs.Added.{added_out, grown-only}
-use Rattle.breakdown.proofs.PartByPart.{Along, no-measures, none-short, rest, first-class, first-along, first-text, ahead}
-use Rattle.breakdown.proofs.PartByPart.{part-tokens, on, on-text, next-within, as_long, most, at-end}
+use Rattle.breakdown.proofs.PartByPart.{Along}
 use Rattle.breakdown.proofs.text.measures_text.Given as goal
 
 abbrev pub invariant-loop-i : goal.invariant-loop-i

@@ -1,18 +1,16 @@
 -- `breakdown::text::text_of_measures` meets its contract.
 -- Assumes nothing.
-use mathlib.Core.Path.{refl, sym}
+use mathlib.Core.Path.{sym}
 use native.Mathlib.Omega.{arith}
-use borrow.Author.Rules.{rules}
 use Rattle.text_buffer.proofs.Added.{added-ends, room-left}
 use Rattle.breakdown.proofs.text.text_of_measures.Goals as goal
 
 pub measures_text-to-requires : goal.measures_text-to-requires
-measures_text-to-requires c =
-    (
-      c.requires.0,
-      record { long = omega arith; few = omega arith; words = c.words-words.ensures },
-      c.requires.1,
-    )
+measures_text-to-requires c = (
+  c.requires.0,
+  record { long = omega arith; few = omega arith; words = c.words-words.ensures },
+  c.requires.1,
+)
 
 pub slice_bounds-put_buffer-end : goal.slice_bounds-put_buffer-end
 slice_bounds-put_buffer-end c = sym c.measures_text-to.ensures.long

@@ -3,7 +3,6 @@
 use mathlib.Core.Path.{◌≡◌}
 use mathlib.Core.List.{[], ◌++◌, append-nil}
 use native.Mathlib.Omega.{arith}
-use borrow.Author.Rules.{rules}
 use Rattle.rules.specs.Slices.{paired}
 use Rattle.text_buffer.specs.Runs.{run_text}
 use Rattle.breakdown.specs.Forms.{text_of}

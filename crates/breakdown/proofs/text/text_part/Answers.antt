@@ -2,8 +2,6 @@
 -- Assumes nothing.
 use mathlib.Core.Path.{sym, ◌∙◌}
 use mathlib.Core.Bool.{true≢false}
-use mathlib.Core.Logic.{⊎_elim}
-use borrow.Author.Rules.{rules}
 use Rattle.breakdown.specs.Forms.{form_with}
 use Rattle.text_buffer.proofs.Added.{added_out}
 use Rattle.breakdown.proofs.PartByPart.{piece-part}
@@ -40,10 +38,10 @@ returns c =
     let s = c.args in
     let e = c.if-sn.false in
     elim c.if-dense.branch [
-    then-dense w ↦ rw (c.piece_run.ensures, w.buf-is, w.out-is, w.d-is) (piece-part (form_with s.sn s.limit s.signs) s.run s.cs.now s.ns.now e
-    w.dense_part-d.result.piece w.dense_part-d.ensures)
-    | else-dense w ↦ rw (c.piece_run.ensures, w.buf-is, w.out-is, w.d-is) (piece-part (form_with s.sn s.limit s.signs) s.run s.cs.now s.ns.now e
-    w.standard_part-d.result.piece w.standard_part-d.ensures)
+      | then-dense w ↦ rw (c.piece_run.ensures, w.buf-is, w.out-is, w.d-is) (piece-part (form_with s.sn s.limit s.signs) s.run s.cs.now s.ns.now e
+          w.dense_part-d.result.piece w.dense_part-d.ensures)
+      | else-dense w ↦ rw (c.piece_run.ensures, w.buf-is, w.out-is, w.d-is) (piece-part (form_with s.sn s.limit s.signs) s.run s.cs.now s.ns.now e
+          w.standard_part-d.result.piece w.standard_part-d.ensures)
     ]
 
 pub shape_of-buf : goal.shape_of-buf

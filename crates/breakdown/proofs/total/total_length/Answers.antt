@@ -2,7 +2,6 @@
 -- Assumes nothing.
 use lib.ListN.{length-append}
 use native.Mathlib.Omega.{arith}
-use borrow.Author.Rules.{rules}
 use Rattle.breakdown.proofs.TotalText.{total-none, total-some}
 use Rattle.breakdown.proofs.total.total_length.Goals as goal
 

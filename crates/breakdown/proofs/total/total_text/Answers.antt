@@ -1,6 +1,5 @@
 -- `breakdown::total::total_text` meets its contract.
 -- Assumes nothing.
-use borrow.Author.Rules.{rules}
 use native.Mathlib.Omega.{arith}
 use Rattle.number.proofs.Padded.{padded-none}
 use Rattle.number.proofs.Place.{room-first, room_next, wrote}

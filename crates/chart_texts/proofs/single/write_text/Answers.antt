@@ -1,7 +1,6 @@
 -- `chart_texts::single::write_text` meets its contract.
 -- Assumes nothing.
 use Rattle.chart_texts.proofs.Answers.{said-no, said-yes, breakdown-1, breakdown-4, breakdown-room, breakdown-0}
-use borrow.Author.Rules.{rules}
 use Rattle.chart_texts.proofs.single.write_text.Goals as goal
 
 pub returns-then-m-gt1048576 : goal.returns-then-m-gt1048576

@@ -2,7 +2,6 @@
 -- Assumes nothing.
 use mathlib.Core.Path.{sym, ◌∙◌}
 use Rattle.chart_texts.proofs.Texts.{source, is-text, total}
-use borrow.Author.Rules.{rules}
 use Rattle.chart_texts.proofs.text.put_text.Goals as goal
 
 pub total_text-requires : goal.total_text-requires

@@ -2,7 +2,6 @@
 -- Assumes nothing.
 use native.Mathlib.Omega.{arith}
 use Rattle.counts.proofs.Shared.{Known, known}
-use borrow.Author.Rules.{rules}
 use Rattle.chart_texts.proofs.text.stream_count.Goals as goal
 
 pub overflow_add-result : goal.overflow_add-result

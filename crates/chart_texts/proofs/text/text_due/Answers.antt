@@ -5,7 +5,6 @@ use mathlib.Core.Path.{sym, ap, ◌∙◌}
 use lib.ListN.{length}
 use Rattle.standard_text.specs.Standard.{total_text}
 use Rattle.chart_texts.proofs.Texts.{source, is-text, total}
-use borrow.Author.Rules.{rules}
 use Rattle.chart_texts.proofs.text.text_due.Goals as goal
 
 pub returns-then-is_total : goal.returns-then-is_total

@@ -4,7 +4,6 @@ use mathlib.Core.Path.{sym}
 use native.Mathlib.Nat.{le_trans}
 use borrow.Author.Tests.{le-leb}
 use Rattle.chart_texts.proofs.Texts.{text-short}
-use borrow.Author.Rules.{rules}
 use Rattle.chart_texts.proofs.text.text_fits.Goals as goal
 
 pub returns-then-m-room : goal.returns-then-m-room

@@ -6,7 +6,6 @@ use native.Mathlib.Omega.{arith}
 use borrow.Author.Tests.{le-leb}
 use Rattle.chart_texts.proofs.Texts.{text-short}
 use Rattle.chart_texts.proofs.EndToEnd.{three-length, three-short}
-use borrow.Author.Rules.{rules}
 use Rattle.chart_texts.proofs.three.texts_fit.Goals as goal
 
 pub returns-then-m-room : goal.returns-then-m-room

@@ -2,7 +2,6 @@
 -- Assumes nothing.
 use Rattle.chart_texts.proofs.Answers.{said-no, said-yes}
 use Rattle.chart_texts.proofs.EndToEnd.{three-1, three-4, room-1, room-2, room-3, three-0}
-use borrow.Author.Rules.{rules}
 use Rattle.chart_texts.proofs.three.write_three.Goals as goal
 
 pub returns-then-m-gt1048576 : goal.returns-then-m-gt1048576

@@ -1,6 +1,5 @@
 -- `note_rows::line::end_at` meets its contract.
 -- Assumes nothing.
-use borrow.Author.Rules.{rules}
 use Rattle.note_rows.proofs.First.{nothing_left, one_left, longer, other_byte, a-comma, bytes-behind, none-behind}
 use Rattle.note_rows.proofs.line.end_at.Goals as goal
 

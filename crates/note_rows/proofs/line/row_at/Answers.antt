@@ -1,6 +1,5 @@
 -- `note_rows::line::row_at` meets its contract.
 -- Assumes nothing.
-use borrow.Author.Rules.{rules}
 use Rattle.note_rows.proofs.First.{too_short, not-closed, row_told}
 use Rattle.note_rows.proofs.line.row_at.Goals as goal
 

@@ -3,7 +3,6 @@
 use mathlib.Core.Path.{◌≡◌}
 use mathlib.Core.Bool.{true}
 use mathlib.Core.List.{[], ◌∷◌}
-use borrow.Author.Rules.{rules}
 use Rattle.note_rows.specs.NoteRows.{is_row}
 use Rattle.note_rows.proofs.Bytes.{a-row, no_row, without-note, with-note}
 use Rattle.note_rows.proofs.line.row_of.Goals as goal

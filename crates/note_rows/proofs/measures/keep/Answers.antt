@@ -2,7 +2,6 @@
 -- Assumes nothing.
 use mathlib.Core.Path.{sym}
 use lib.Seq.{set_out}
-use borrow.Author.Rules.{rules}
 use Rattle.note_rows.proofs.measures.keep.Goals as goal
 
 pub returns-else-k-densities : goal.returns-else-k-densities

@@ -1,14 +1,11 @@
 -- `note_rows::measures::read_measures` meets its contract.
 -- Assumes nothing.
-use Prim.Native.Nat.{◌-◌}
 use mathlib.Core.Path.{sym, ◌∙◌}
 use mathlib.Core.List.{[], ◌∷◌}
 use native.Mathlib.Omega.{arith}
-use lib.ListN.{length}
-use borrow.Author.Rules.{rules}
 use Rattle.note_rows.specs.declared.line.Ending.TheVariants.{Measure, Last}
 use Rattle.note_rows.proofs.Found.{LineAt, RowAt, row-found, byte-found, last-ends}
-use Rattle.note_rows.proofs.Passing.{Passing, starts, too_many, next_row, kept-long, next-measure, done, faulty}
+use Rattle.note_rows.proofs.Passing.{starts, too_many, next_row, kept-long, next-measure, done, faulty}
 use Rattle.note_rows.proofs.measures.read_measures.Goals as goal
 
 pub loop-at-init : goal.loop-at-init

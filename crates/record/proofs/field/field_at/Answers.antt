@@ -1,7 +1,6 @@
 -- `record::field::field_at` meets its contract.
 -- Assumes nothing.
 use Rattle.record.proofs.Fields.{ended, headless, short, found}
-use borrow.Author.Rules.{rules}
 use Rattle.record.proofs.field.field_at.Goals as goal
 
 pub returns-then-left-eq0 : goal.returns-then-left-eq0

@@ -1,12 +1,9 @@
 -- `record::place::place_densities` meets its contract.
 -- Assumes nothing.
-use Prim.Native.Nat.{◌-◌}
 use mathlib.Core.Path.{sym, ◌∙◌}
 use native.Mathlib.Omega.{arith}
-use lib.ListN.{length}
-use borrow.Author.Rules.{rules}
 use Rattle.record.proofs.Fields.{WholeAt, is-end, is_cut, whole-at}
-use Rattle.record.proofs.Placing.{Placing, starts, ended, cut_off, skip, has_room, step}
+use Rattle.record.proofs.Placing.{starts, ended, cut_off, skip, has_room, step}
 use Rattle.record.proofs.place.place_densities.Goals as goal
 
 pub loop-tag-init : goal.loop-tag-init

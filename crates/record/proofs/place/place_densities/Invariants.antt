@@ -1,12 +1,8 @@
 -- `record::place::place_densities` meets its contract.
 -- Assumes nothing.
 use Prim.Native.Nat.{◌-◌}
-use mathlib.Core.Path.{sym, ◌∙◌}
-use native.Mathlib.Omega.{arith}
 use lib.ListN.{length}
-use borrow.Author.Rules.{rules}
-use Rattle.record.proofs.Fields.{WholeAt, is-end, is_cut, whole-at}
-use Rattle.record.proofs.Placing.{Placing, starts, ended, cut_off, skip, has_room, step}
+use Rattle.record.proofs.Placing.{Placing}
 use Rattle.record.proofs.place.place_densities.Given as goal
 
 abbrev pub invariant-loop-tag : goal.invariant-loop-tag

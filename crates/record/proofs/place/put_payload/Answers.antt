@@ -1,10 +1,7 @@
 -- `record::place::put_payload` meets its contract.
 -- Assumes nothing.
-use Prim.Native.Nat.{◌-◌}
 use native.Mathlib.Omega.{arith}
-use lib.ListN.{length}
-use borrow.Author.Rules.{rules}
-use Rattle.number.proofs.Place.{Putting, put-starts, put_step, put-done}
+use Rattle.number.proofs.Place.{put-starts, put_step, put-done}
 use Rattle.record.proofs.place.put_payload.Goals as goal
 
 pub loop-i-init : goal.loop-i-init

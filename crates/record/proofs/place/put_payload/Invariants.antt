@@ -1,10 +1,8 @@
 -- `record::place::put_payload` meets its contract.
 -- Assumes nothing.
 use Prim.Native.Nat.{◌-◌}
-use native.Mathlib.Omega.{arith}
 use lib.ListN.{length}
-use borrow.Author.Rules.{rules}
-use Rattle.number.proofs.Place.{Putting, put-starts, put_step, put-done}
+use Rattle.number.proofs.Place.{Putting}
 use Rattle.record.proofs.place.put_payload.Given as goal
 
 abbrev pub invariant-loop-i : goal.invariant-loop-i

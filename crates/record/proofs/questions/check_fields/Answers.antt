@@ -1,12 +1,9 @@
 -- `record::questions::check_fields` meets its contract.
 -- Assumes nothing.
-use Prim.Native.Nat.{◌-◌}
 use mathlib.Core.Path.{sym, ◌∙◌}
 use native.Mathlib.Omega.{arith}
-use lib.ListN.{length}
-use borrow.Author.Rules.{rules}
 use Rattle.record.proofs.Fields.{WholeAt, is-end, is_cut, whole-at}
-use Rattle.record.proofs.Checking.{Checking, starts, empty, done, cut_off, turned_down, a-name, some-densities}
+use Rattle.record.proofs.Checking.{starts, empty, done, cut_off, turned_down, a-name, some-densities}
 use Rattle.record.proofs.questions.check_fields.Goals as goal
 
 pub loop-no-init : goal.loop-no-init

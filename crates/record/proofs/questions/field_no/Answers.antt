@@ -1,9 +1,8 @@
 -- `record::questions::field_no` meets its contract.
 -- Assumes nothing.
 use mathlib.Core.Path.{sym, ◌∙◌}
-use borrow.Author.Tests.{eq-eqb, ne_eqb, not-true, not-false}
+use borrow.Author.Tests.{eq-eqb, ne_eqb}
 use Rattle.record.specs.Record.{field_no}
-use borrow.Author.Rules.{rules}
 use Rattle.record.proofs.questions.field_no.Goals as goal
 
 pub returns-then-not-first : goal.returns-then-not-first

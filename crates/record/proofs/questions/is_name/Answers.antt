@@ -1,9 +1,6 @@
 -- `record::questions::is_name` meets its contract.
 -- Assumes nothing.
-use Prim.Native.Nat.{◌-◌}
-use lib.ListN.{length}
-use borrow.Author.Rules.{rules}
-use Rattle.record.proofs.Naming.{name-empty, name-long, Naming, starts, done, below, above, step}
+use Rattle.record.proofs.Naming.{name-empty, name-long, starts, done, below, above, step}
 use Rattle.record.proofs.questions.is_name.Goals as goal
 
 pub returns-then-payload-lt1 : goal.returns-then-payload-lt1

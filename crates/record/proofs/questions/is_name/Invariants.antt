@@ -2,8 +2,7 @@
 -- Assumes nothing.
 use Prim.Native.Nat.{◌-◌}
 use lib.ListN.{length}
-use borrow.Author.Rules.{rules}
-use Rattle.record.proofs.Naming.{name-empty, name-long, Naming, starts, done, below, above, step}
+use Rattle.record.proofs.Naming.{Naming}
 use Rattle.record.proofs.questions.is_name.Given as goal
 
 abbrev pub invariant-loop-i : goal.invariant-loop-i

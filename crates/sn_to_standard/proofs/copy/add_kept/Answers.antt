@@ -10,11 +10,10 @@ use Rattle.sn_to_standard.proofs.copy.add_kept.Goals as goal
 
 pub returns-then-b-gt57 : goal.returns-then-b-gt57
 returns-then-b-gt57 c =
-    let long-here : c.args.k < length c.args.buf.now = omega arith in
-    let s = stored c.args.b (long-here) in
-    rw (lt-ltb 57 _ c.if-b-gt57.true) (dropped (c.args.b ∷ []) (omega (arith, long-here)) s)
+    let long : c.args.k < length c.args.buf.now = omega arith in
+    rw (lt-ltb 57 c.args.b (omega arith)) (dropped (c.args.b ∷ []) (omega arith) (stored c.args.b long))
 
 pub returns-else-b-gt57 : goal.returns-else-b-gt57
 returns-else-b-gt57 c =
-    let long-here : c.args.k < length c.args.buf.now = omega arith in
-    rw (le-ltb 57 _ c.if-b-gt57.false) (stored _ (long-here))
+    let long : c.args.k < length c.args.buf.now = omega arith in
+    rw (le-ltb 57 c.args.b (omega arith)) (stored c.args.b long)

@@ -7,6 +7,11 @@ use Rattle.number.proofs.Grown.{within}
 use Rattle.sn_to_standard.specs.Copied.{kept, shown_part}
 use Rattle.sn_to_standard.proofs.Blocks.{part_length}
 use Rattle.sn_to_standard.proofs.copy.put_block.Goals as goal
+use Rattle.sn_to_standard.proofs.copy.put_block.Goals.{After-add_block-k}
+
+-- what stands in the buffer
+front : (c : After-add_block-k) → take c.add_block-k.result c.add_block-k.new.buf ≡ kept (shown_part c.args.text.now c.args.i c.args.n)
+front c = c.add_block-k.ensures.front ∙ ap kept c.fill_block.ensures
 
 pub add_block-k-requires : goal.add_block-k-requires
 add_block-k-requires c =
@@ -15,10 +20,8 @@ add_block-k-requires c =
 
 pub put_buffer-requires : goal.put_buffer-requires
 put_buffer-requires c =
-    let front-here : take c.add_block-k.result c.add_block-k.new.buf ≡ kept (shown_part c.args.text.now c.args.i c.args.n) = c.add_block-k.ensures.front ∙ ap kept c.fill_block.ensures in
-    (within _ (omega arith) c.add_block-k.ensures, rw (front-here) c.requires.1)
+    (within _ (omega arith) c.add_block-k.ensures, rw (front (goal.at.put_buffer-requires c).After-add_block-k) c.requires.1)
 
 pub returns : goal.returns
 returns c =
-    let front-here : take c.add_block-k.result c.add_block-k.new.buf ≡ kept (shown_part c.args.text.now c.args.i c.args.n) = c.add_block-k.ensures.front ∙ ap kept c.fill_block.ensures in
-    rw (front-here) at c.put_buffer.ensures
+    rw (front (goal.at.returns c).After-add_block-k) at c.put_buffer.ensures

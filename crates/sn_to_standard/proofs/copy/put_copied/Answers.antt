@@ -10,6 +10,7 @@ use Rattle.text_buffer.proofs.Reached.{starts, room, room-part, on, ends}
 use Rattle.sn_to_standard.specs.Copied.{shown_bytes, kept_byte, kept}
 use Rattle.sn_to_standard.proofs.Blocks.{kept-part, copied-first, copied-last}
 use Rattle.sn_to_standard.proofs.copy.put_copied.Goals as goal
+use Rattle.sn_to_standard.proofs.copy.put_copied.Goals.{After-loop-i}
 
 pub put_end-place-requires : goal.put_end-place-requires
 put_end-place-requires c =
@@ -25,9 +26,6 @@ shape_of-out-then-last-eq0 c = wrote-length _ [] (returns-then-last-eq0 c)
 pub loop-i-init : goal.loop-i-init
 loop-i-init c =
     (omega arith, omega arith, room_next _ _ c.put_end-place.ensures (rw (copied-first c.args.text.now c.requires.0) at c.requires.1), starts)
-
-pub block_length-n-requires : goal.block_length-n-requires
-block_length-n-requires c = tt
 
 pub put_block-place-requires : goal.put_block-place-requires
 put_block-place-requires c =
@@ -49,21 +47,24 @@ loop-i-preserved c =
       on l.invariant.3 _ _ (kept-part (shown_bytes 41 c.args.text.now) l.i c.block_length-n.result) c.put_block-place.ensures,
     )
 
+-- behind the last block
+last_byte : (c : After-loop-i)
+    → let text = c.args.text.now in
+    kept (drop c.loop-i.i (shown_bytes 41 text)) ≡ kept_byte (get_or text (length text - 1) 0)
+last_byte c =
+    let text = c.args.text.now in
+    let e : c.loop-i.i ≡ length text - 1 = omega arith in
+    ap (λ (i : ℕ). kept (drop i (shown_bytes 41 text))) e ∙ copied-last text (length text - 1) (omega arith)
+
 pub put_end-requires : goal.put_end-requires
 put_end-requires c =
-    let last_byte-here : kept (drop c.loop-i.i (shown_bytes 41 c.args.text.now)) ≡ kept_byte (get_or c.args.text.now (length c.args.text.now - 1) 0) = let text = c.args.text.now in
-    let e : c.loop-i.i ≡ length text - 1 = omega arith in
-    ap (λ (i : ℕ). kept (drop i (shown_bytes 41 text))) e ∙ copied-last text (length text - 1) (omega arith) in
     let l = c.loop-i in
-    rw (last_byte-here) at (room l.invariant.3 l.invariant.2)
+    rw (last_byte (goal.at.put_end-requires c).After-loop-i) at (room l.invariant.3 l.invariant.2)
 
 pub returns : goal.returns
 returns c =
-    let last_byte-here : kept (drop c.loop-i.i (shown_bytes 41 c.args.text.now)) ≡ kept_byte (get_or c.args.text.now (length c.args.text.now - 1) 0) = let text = c.args.text.now in
-    let e : c.loop-i.i ≡ length text - 1 = omega arith in
-    ap (λ (i : ℕ). kept (drop i (shown_bytes 41 text))) e ∙ copied-last text (length text - 1) (omega arith) in
     rw (copied-first c.args.text.now c.requires.0)
-    (wrote _ _ c.put_end-place.ensures (ends c.loop-i.invariant.3 (rw (last_byte-here) c.put_end.ensures)))
+    (wrote _ _ c.put_end-place.ensures (ends c.loop-i.invariant.3 (rw (last_byte (goal.at.returns c).After-loop-i) c.put_end.ensures)))
 
 pub shape_of-out : goal.shape_of-out
 shape_of-out c = wrote-length _ [] (returns c)

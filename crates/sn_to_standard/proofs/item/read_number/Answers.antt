@@ -10,10 +10,7 @@ use Rattle.sn_to_standard.proofs.item.read_number.Goals as goal
 use Rattle.sn_to_standard.proofs.item.read_number.Goals.{Else-not-is_digit}
 
 -- a digit was found
-digit : (c : Else-not-is_digit)
-    → let a = c in
-    let x = get_or a.args.text.now a.loop-i.i 0 in
-    (48 ≤ x) × (x ≤ 57)
+digit : (c : Else-not-is_digit) → let x = get_or c.args.text.now c.loop-i.i 0 in (48 ≤ x) × (x ≤ 57)
 digit c = digit-bounds _ (sym c.is_digit.ensures ∙ c.if-not-is_digit.false)
 
 pub loop-i-init : goal.loop-i-init
@@ -34,7 +31,7 @@ overflow_add-value c = omega (arith, digit (goal.at.overflow_add-value c).Else-n
 
 pub returns-then-value-eq0 : goal.returns-then-value-eq0
 returns-then-value-eq0 c =
-    by_zero c.loop-i.invariant c.loop-i-test.true (digit (goal.at.returns-then-value-eq0 c).Else-not-is_digit) c.if-value-eq0.true
+    by_zero c.loop-i.invariant c.loop-i-test.true (digit (goal.at.returns-then-value-eq0 c).Else-not-is_digit) (omega arith)
 
 pub returns-then-value-gt1048576 : goal.returns-then-value-gt1048576
 returns-then-value-gt1048576 c =
@@ -42,7 +39,7 @@ returns-then-value-gt1048576 c =
 
 pub loop-i-preserved : goal.loop-i-preserved
 loop-i-preserved c =
-    goes_on_lem c.loop-i.invariant c.loop-i-test.true (digit (goal.at.loop-i-preserved c).Else-not-is_digit) (omega (arith, c.if-value-eq0.false)) c.if-value-gt1048576.false
+    goes_on_lem c.loop-i.invariant c.loop-i-test.true (digit (goal.at.loop-i-preserved c).Else-not-is_digit) (omega arith) c.if-value-gt1048576.false
 
 pub returns : goal.returns
 returns c = stopped c.loop-i.invariant (rw (drop_of_length-le _ c.loop-i-test.false) tt)

@@ -16,20 +16,17 @@ returns-then-text-gt4194304 c = sym (long-fails _ c.if-text-gt4194304.true)
 
 pub loop-at-init : goal.loop-at-init
 loop-at-init c =
-    (record { short = c.if-text-gt4194304.false; within = omega arith; class-most = omega arith; few = omega arith }, whole _ c.if-text-eq0.false)
+    (record { short = omega arith; within = omega arith; class-most = omega arith; few = omega arith }, whole _ c.if-text-eq0.false)
 
 pub returns-then-stop-lt20 : goal.returns-then-stop-lt20
 returns-then-stop-lt20 c = told c.loop-at.invariant.1 c.expect_run-stop.ensures c.if-stop-lt20.true
 
 -- where the descent stopped
-stopped : (c : Else-stop-lt20)
-    → let l = c in
-    let t = l.args.text.now in
-    Unpacked t (text_no t) l.loop-at.at c.expect_run-stop.result
+stopped : (c : Else-stop-lt20) → let t = c.args.text.now in Unpacked t (text_no t) c.loop-at.at c.expect_run-stop.result
 stopped c = unpacked c.loop-at.invariant.1 c.expect_run-stop.ensures c.if-stop-lt20.false
 
 pub loop-at-smaller : goal.loop-at-smaller
 loop-at-smaller c = let p = stopped (goal.at.loop-at-smaller c).Else-stop-lt20 in omega (arith, p.further, p.stands.within)
 
 pub loop-at-preserved : goal.loop-at-preserved
-loop-at-preserved c = ((stopped (goal.at.loop-at-preserved c).Else-stop-lt20).stands, (stopped (goal.at.loop-at-preserved c).Else-stop-lt20).number)
+loop-at-preserved c = let p = stopped (goal.at.loop-at-preserved c).Else-stop-lt20 in (p.stands, p.number)
