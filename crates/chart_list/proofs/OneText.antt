@@ -1,8 +1,8 @@
 -- The answer of a call that writes one text counts bytes of the lent slice, whether it wrote or refused.
 -- Assumes nothing.
 use Rattle.std.proofs.Common.{◌≡◌, ℕ, leb, List, [], ◌∷◌, length, ap, arith, leb-true}
-use Rattle.io.specs.Counts.{IsPrefixLen}
-use Rattle.io.proofs.Counting.{prefix_len_of_le}
+use Rattle.std.specs.Counts.{IsPrefixLen}
+use Rattle.chart_list.proofs.Counting.{prefix_len_of_le}
 use Rattle.number.specs.Questions.{first_no, room_for, OneText}
 use Rattle.number.specs.declared.Written.{Written}
 use Rattle.number.proofs.Split.{split}

@@ -1,7 +1,7 @@
 -- Bounds that the readers of a list ask and promise.
 -- Assumes nothing.
 use Rattle.std.specs.Prelude.{ℕ, ◌<◌, ◌≤◌, List, length}
-use Rattle.io.specs.Counts.{IsPrefixLen}
+use Rattle.std.specs.Counts.{IsPrefixLen}
 use Rattle.chart_list.specs.declared.cases.Case.{Case}
 use Rattle.chart_list.specs.declared.read.Chart.{Chart}
 

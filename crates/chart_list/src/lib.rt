@@ -1,6 +1,7 @@
-// For the programs that run the calls over lists: charts and cases are read, lines of answers are put together.
+// What the programs share: an input is read whole, the charts and cases of a list are found, lines of answers are put together.
 #![tactic(auto)]
 
 pub mod cases;
 pub mod line;
 pub mod read;
+pub mod stream;

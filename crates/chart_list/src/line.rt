@@ -1,5 +1,5 @@
 // Lines of answers, put together at the front of a lent slice. What finds no room is left out.
-ghost use Rattle.io.specs.Counts.{IsPrefixLen};
+ghost use Rattle.std.specs.Counts.{IsPrefixLen};
 
 // `text` from the place `at` on, as far as it fits; the next place is answered.
 pub fn put_bytes(out: &mut [u8], at: usize, text: &[u8]) -> usize

@@ -1,5 +1,5 @@
 // Chart lists: one chart a line, its items parted by one space. `D` is one measure of density D, `DxK` is K of them.
-ghost use Rattle.io.specs.Counts.{IsPrefixLen};
+ghost use Rattle.std.specs.Counts.{IsPrefixLen};
 ghost use Rattle.chart_list.specs.Bounds.{Within, From, ReadChart};
 
 // A chart that was read: the place of the next line, and how many measures stand in the lent slice.

@@ -1,21 +1,21 @@
 // The lines of one chart, each part of them put at a place and answering the next place.
-ghost use Rattle.io.specs.Counts.{IsPrefixLen};
+ghost use Rattle.std.specs.Counts.{IsPrefixLen};
 
 use chart_list::line::{put_bytes, put_number};
 use counts::compute_stream_counts;
 use counts_line::board_counts;
-use libc::STDOUT_FILENO;
 use rules::StreamCounts;
+use std::io;
 use stream_outputs::compute_stream_outputs;
 
-pub fn print_answers(m: &[u32]) {
+pub fn print_answers(rt: &impl Print, m: &[u32]) -> io::Result<()> {
     let mut lines = [0u8; 256];
     let counts_end = put_by_counts(&mut lines, 0, m);
     let counts_parted = put_bytes(&mut lines, counts_end, b"; ");
     let pass_end = put_by_pass(&mut lines, counts_parted, m);
     let pass_parted = put_bytes(&mut lines, pass_end, b"; ");
     let end = put_board(&mut lines, pass_parted, m);
-    io::write_all(STDOUT_FILENO, &lines[..end]);
+    rt.write_all(&lines[..end])
 }
 
 fn put_by_counts(out: &mut [u8], at: usize, m: &[u32]) -> usize

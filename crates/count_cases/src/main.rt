@@ -6,23 +6,30 @@ mod answers;
 
 use answers::print_answers;
 use chart_list::read::next_chart;
-use libc::STDIN_FILENO;
+use chart_list::stream::read_full;
+use std::io;
 
-fn print_all(list: &[u8]) {
+fn print_all(rt: &impl Print, list: &[u8]) -> io::Result<()> {
     // One measure more than the domain has.
     let mut measures = [0u32; 1048577];
     let mut at = 0;
     while at < list.len() {
         let chart = next_chart(list, at, &mut measures);
         let count = chart.measures;
-        print_answers(&measures[..count]);
+        print_answers(rt, &measures[..count])?;
         at = chart.next;
     }
+    Ok(())
 }
 
-fn main() {
+// The list that is read into `space`.
+fn print_list(rt: &(impl Input + Print), space: &mut [u8]) -> io::Result<()> {
+    let length = read_full(&mut rt.reader(), space)?;
+    print_all(rt, &space[..length])
+}
+
+fn main(rt: HostRuntime) -> io::Result<()> {
     // Room for the whole list.
     let mut space = [0u8; 262144];
-    let length = io::read_full(STDIN_FILENO, &mut space);
-    print_all(&space[..length]);
+    print_list(&rt, &mut space)
 }

@@ -7,10 +7,10 @@ use chart_texts::single::{generate_breakdown, stream_breakdown};
 use chart_texts::three::{generate_breakdowns, stream_breakdowns};
 use counts_line::board_counts;
 use label::{LabelWritten, label};
-use libc::STDOUT_FILENO;
 use number::{Written, push_u64};
 use rules::{BreakdownMode, RunDensity, StreamBreakdownLevel};
 use run_symbol::format_run_symbol;
+use std::io;
 
 #[derive(Clone, Copy)]
 pub enum Call {
@@ -84,36 +84,42 @@ fn make(call: Call, m: &[u32], out: &mut [u8]) -> Answer {
 }
 
 // The lines of a call: its text fills the slice, is one byte longer than it, and leaves three bytes of it.
-pub fn print_call(name: &[u8], call: Call, m: &[u32]) {
+pub fn print_call(rt: &impl Print, name: &[u8], call: Call, m: &[u32]) -> io::Result<()> {
     let mut space = [0u8; 4096];
     let roomy = make(call, m, &mut space);
     let due = capped(roomy.due);
-    print_line(name, call, m, due);
+    print_line(rt, name, call, m, due)?;
     if 0 < due {
-        print_line(name, call, m, due - 1);
+        print_line(rt, name, call, m, due - 1)?;
     }
-    print_line(name, call, m, due + 3);
+    print_line(rt, name, call, m, due + 3)
 }
 
 // One line: the call's name, the slice's length, the answer, and the slice afterwards.
-fn print_line(name: &[u8], call: Call, m: &[u32], length: usize) {
+fn print_line(
+    rt: &impl Print,
+    name: &[u8],
+    call: Call,
+    m: &[u32],
+    length: usize,
+) -> io::Result<()> {
     let mut space = [b'#'; 4096];
-    io::write_all(STDOUT_FILENO, name);
-    print_number(length as u64);
-    lend(call, m, length, &mut space);
+    rt.write_all(name)?;
+    print_number(rt, length as u64)?;
+    lend(rt, call, m, length, &mut space)
 }
 
-fn lend(call: Call, m: &[u32], length: usize, space: &mut [u8]) {
+fn lend(rt: &impl Print, call: Call, m: &[u32], length: usize, space: &mut [u8]) -> io::Result<()> {
     if space.len() < length {
-        return;
+        return Ok(());
     }
     let got = make(call, m, &mut space[0..length]);
-    print_answer(got);
-    print_slice(&space[0..length]);
+    print_answer(rt, got)?;
+    print_slice(rt, &space[0..length])
 }
 
-fn print_answer(got: Answer) {
+fn print_answer(rt: &impl Print, got: Answer) -> io::Result<()> {
     let numbers = got.numbers;
-    print_number(got.refused as u64);
-    print_numbers(&numbers, got.count);
+    print_number(rt, got.refused as u64)?;
+    print_numbers(rt, &numbers, got.count)
 }

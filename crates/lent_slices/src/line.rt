@@ -1,26 +1,25 @@
 // Parts of a line.
 use chart_list::line::put_number;
-use libc::STDOUT_FILENO;
+use std::io;
 
 // A space, and a number behind it.
-pub fn print_number(n: u64) {
+pub fn print_number(rt: &impl Print, n: u64) -> io::Result<()> {
     let mut text = [b' '; 21];
     let end = put_number(&mut text, 1, n);
-    io::write_all(STDOUT_FILENO, &text[..end]);
+    rt.write_all(&text[..end])
 }
 
 // The first `count` of the numbers.
-pub fn print_numbers(numbers: &[usize], count: usize) {
-    let mut k = 0;
-    while k < numbers.len() && k < count {
-        print_number(numbers[k] as u64);
-        k += 1;
+pub fn print_numbers(rt: &impl Print, numbers: &[usize], count: usize) -> io::Result<()> {
+    for number in numbers.iter().take(count) {
+        print_number(rt, *number as u64)?;
     }
+    Ok(())
 }
 
 // A whole slice of text, behind a bar, and the line's end.
-pub fn print_slice(text: &[u8]) {
-    io::write_all(STDOUT_FILENO, b" |");
-    io::write_all(STDOUT_FILENO, text);
-    io::write_all(STDOUT_FILENO, b"\n");
+pub fn print_slice(rt: &impl Print, text: &[u8]) -> io::Result<()> {
+    rt.write_all(b" |")?;
+    rt.write_all(text)?;
+    rt.write_all(b"\n")
 }

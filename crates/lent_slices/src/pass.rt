@@ -3,8 +3,8 @@ ghost use Rattle.std.specs.Prelude.{◌≤◌};
 
 use crate::call::capped;
 use crate::line::{print_number, print_numbers, print_slice};
-use libc::STDOUT_FILENO;
 use rules::StreamCounts;
+use std::io;
 use stream_outputs::{StreamOutputs, compute_stream_outputs};
 
 // The length of all six texts.
@@ -17,7 +17,7 @@ fn total(lengths: [usize; 6]) -> usize
 
 // The lines of the pass: all three slices full; a token slice one short; a token slice and the text slice, for the order
 // of the questions; the text slice; all three longer.
-pub fn print_passes(m: &[u32]) {
+pub fn print_passes(rt: &impl Print, m: &[u32]) -> io::Result<()> {
     let mut classes = [0u8; 32];
     let mut lengths = [0u32; 32];
     let mut space = [0u8; 4096];
@@ -25,30 +25,31 @@ pub fn print_passes(m: &[u32]) {
     let tokens = capped(roomy.tokens);
     let each = roomy.lengths;
     let due = total(each);
-    print_pass(m, tokens, tokens, due);
+    print_pass(rt, m, tokens, tokens, due)?;
     if 0 < tokens && 0 < due {
-        print_pass(m, tokens - 1, tokens, due);
-        print_pass(m, tokens, tokens - 1, due);
-        print_pass(m, tokens, tokens - 1, due - 1);
+        print_pass(rt, m, tokens - 1, tokens, due)?;
+        print_pass(rt, m, tokens, tokens - 1, due)?;
+        print_pass(rt, m, tokens, tokens - 1, due - 1)?;
     }
     if 0 < due {
-        print_pass(m, tokens, tokens, due - 1);
+        print_pass(rt, m, tokens, tokens, due - 1)?;
     }
-    print_pass(m, tokens + 2, tokens + 3, due + 3);
+    print_pass(rt, m, tokens + 2, tokens + 3, due + 3)
 }
 
 // One line: the lengths of the slices of classes, lengths and text, the answer, and the slices afterwards.
-fn print_pass(m: &[u32], c: usize, n: usize, t: usize) {
+fn print_pass(rt: &impl Print, m: &[u32], c: usize, n: usize, t: usize) -> io::Result<()> {
     let mut classes = [9u8; 32];
     let mut lengths = [9u32; 32];
     let mut space = [b'#'; 4096];
-    io::write_all(STDOUT_FILENO, b"compute_stream_outputs");
-    print_numbers(&[c, n, t], 3);
-    cut(m, c, n, t, &mut classes, &mut lengths, &mut space);
+    rt.write_all(b"compute_stream_outputs")?;
+    print_numbers(rt, &[c, n, t], 3)?;
+    cut(rt, m, c, n, t, &mut classes, &mut lengths, &mut space)
 }
 
 // The first places of three slices are lent.
 fn cut(
+    rt: &impl Print,
     m: &[u32],
     c: usize,
     n: usize,
@@ -56,39 +57,51 @@ fn cut(
     classes: &mut [u8],
     lengths: &mut [u32],
     space: &mut [u8],
-) {
+) -> io::Result<()> {
     if classes.len() < c || lengths.len() < n || space.len() < t {
-        return;
+        return Ok(());
     }
-    lend(m, &mut classes[0..c], &mut lengths[0..n], &mut space[0..t]);
+    lend(
+        rt,
+        m,
+        &mut classes[0..c],
+        &mut lengths[0..n],
+        &mut space[0..t],
+    )
 }
 
-fn lend(m: &[u32], classes: &mut [u8], lengths: &mut [u32], text: &mut [u8]) {
+fn lend(
+    rt: &impl Print,
+    m: &[u32],
+    classes: &mut [u8],
+    lengths: &mut [u32],
+    text: &mut [u8],
+) -> io::Result<()> {
     let got = compute_stream_outputs(m, classes, lengths, text);
-    print_answer(got);
-    print_classes(classes);
-    print_lengths(lengths);
-    print_slice(text);
+    print_answer(rt, got)?;
+    print_classes(rt, classes)?;
+    print_lengths(rt, lengths)?;
+    print_slice(rt, text)
 }
 
-fn print_answer(got: StreamOutputs) {
+fn print_answer(rt: &impl Print, got: StreamOutputs) -> io::Result<()> {
     let counts = got.counts;
     let lengths = got.lengths;
-    print_number(got.refused as u64);
-    print_counts(counts);
-    print_number(got.tokens as u64);
-    print_numbers(&lengths, 6);
+    print_number(rt, got.refused as u64)?;
+    print_counts(rt, counts)?;
+    print_number(rt, got.tokens as u64)?;
+    print_numbers(rt, &lengths, 6)
 }
 
-fn print_counts(counts: StreamCounts) {
-    print_number(counts.run16_streams as u64);
-    print_number(counts.run20_streams as u64);
-    print_number(counts.run24_streams as u64);
-    print_number(counts.run32_streams as u64);
-    print_number(counts.total_breaks as u64);
-    print_number(counts.sn_breaks as u64);
-    print_number(counts.lead as u64);
-    print_number(counts.tail as u64);
+fn print_counts(rt: &impl Print, counts: StreamCounts) -> io::Result<()> {
+    print_number(rt, counts.run16_streams as u64)?;
+    print_number(rt, counts.run20_streams as u64)?;
+    print_number(rt, counts.run24_streams as u64)?;
+    print_number(rt, counts.run32_streams as u64)?;
+    print_number(rt, counts.total_breaks as u64)?;
+    print_number(rt, counts.sn_breaks as u64)?;
+    print_number(rt, counts.lead as u64)?;
+    print_number(rt, counts.tail as u64)
 }
 
 fn wide(x: u8) -> u64 {
@@ -96,13 +109,12 @@ fn wide(x: u8) -> u64 {
 }
 
 // The whole slice of classes, behind a bar.
-fn print_classes(classes: &[u8]) {
-    io::write_all(STDOUT_FILENO, b" |");
-    let mut k = 0;
-    while k < classes.len() {
-        print_number(wide(classes[k]));
-        k += 1;
+fn print_classes(rt: &impl Print, classes: &[u8]) -> io::Result<()> {
+    rt.write_all(b" |")?;
+    for class in classes {
+        print_number(rt, wide(*class))?;
     }
+    Ok(())
 }
 
 fn widened(x: u32) -> u64 {
@@ -110,11 +122,10 @@ fn widened(x: u32) -> u64 {
 }
 
 // The whole slice of lengths, behind a bar.
-fn print_lengths(lengths: &[u32]) {
-    io::write_all(STDOUT_FILENO, b" |");
-    let mut k = 0;
-    while k < lengths.len() {
-        print_number(widened(lengths[k]));
-        k += 1;
+fn print_lengths(rt: &impl Print, lengths: &[u32]) -> io::Result<()> {
+    rt.write_all(b" |")?;
+    for length in lengths {
+        print_number(rt, widened(*length))?;
     }
+    Ok(())
 }

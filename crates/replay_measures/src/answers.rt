@@ -1,18 +1,18 @@
 // The parts of a chart's line, each put at a place of the line and answering the next place.
-ghost use Rattle.io.specs.Counts.{IsPrefixLen};
+ghost use Rattle.std.specs.Counts.{IsPrefixLen};
 
 use alike::alike;
 use chart_list::line::{put_bytes, put_number};
 use counts::compute_stream_counts;
 use counts::share::share;
-use libc::STDOUT_FILENO;
 use measures::active::active_range;
 use rules::StreamCounts;
 use segments::segment_at;
+use std::io;
 use token_view::nth_token;
 
 // The line of the chart `m`, whose line stands behind that of `previous`.
-pub fn print_answers(previous: &[u32], m: &[u32]) {
+pub fn print_answers(rt: &impl Print, previous: &[u32], m: &[u32]) -> io::Result<()> {
     let mut line = [0u8; 4096];
     let active = active_range(m);
     let counts_end = put_counts(&mut line, 0, m);
@@ -22,7 +22,7 @@ pub fn print_answers(previous: &[u32], m: &[u32]) {
     let segments_end = put_segments(&mut line, all_end, b"; segments", m);
     let share_end = put_share(&mut line, segments_end, m);
     let end = put_alike(&mut line, share_end, previous, m);
-    io::write_all(STDOUT_FILENO, &line[..end]);
+    rt.write_all(&line[..end])
 }
 
 // A word, and a number behind it.
@@ -61,12 +61,10 @@ fn put_active(out: &mut [u8], at: usize, start: usize, length: usize) -> usize
 
 // The number of measures before the first stream measure, 0 if there is none.
 fn lead_in(m: &[u32]) -> usize {
-    let mut i = 0;
-    while i < m.len() {
-        if 16 <= m[i] {
+    for (i, density) in m.iter().enumerate() {
+        if 16 <= *density {
             return i;
         }
-        i += 1;
     }
     0
 }
@@ -76,16 +74,14 @@ fn put_tokens(out: &mut [u8], at: usize, word: &[u8], m: &[u32]) -> usize
     ensures { IsPrefixLen result out.new }
 {
     let mut end = put_bytes(out, at, word);
-    let mut k = 0;
     // A chart has no more tokens than measures.
-    while k < m.len() {
+    for k in 0..m.len() {
         let answer = nth_token(m, k);
         let token = answer.token;
         if token.ended {
             return end;
         }
         end = put_token(out, end, token.class, token.length);
-        k += 1;
     }
     end
 }
@@ -102,16 +98,14 @@ fn put_segments(out: &mut [u8], at: usize, word: &[u8], m: &[u32]) -> usize
     ensures { IsPrefixLen result out.new }
 {
     let mut end = put_bytes(out, at, word);
-    let mut k = 0;
     // A chart has no more segments than measures.
-    while k < m.len() {
+    for k in 0..m.len() {
         let answer = segment_at(m, k);
         if !answer.found {
             return end;
         }
         let segment = answer.segment;
         end = put_segment(out, end, segment.start, segment.end, segment.is_break);
-        k += 1;
     }
     end
 }

@@ -5,9 +5,10 @@ mod answers;
 
 use answers::print_answers;
 use chart_list::read::next_chart;
-use libc::STDIN_FILENO;
+use chart_list::stream::read_full;
+use std::io;
 
-fn print_all(list: &[u8]) {
+fn print_all(rt: &impl Print, list: &[u8]) -> io::Result<()> {
     let mut previous = [0u32; 4096];
     let mut measures = [0u32; 4096];
     let mut previous_count = 0;
@@ -15,15 +16,16 @@ fn print_all(list: &[u8]) {
     while at < list.len() {
         let chart = next_chart(list, at, &mut measures);
         let count = chart.measures;
-        print_answers(&previous[..previous_count], &measures[..count]);
+        print_answers(rt, &previous[..previous_count], &measures[..count])?;
         previous = measures;
         previous_count = count;
         at = chart.next;
     }
+    Ok(())
 }
 
-fn main() {
-    let mut space = io::large_buffer();
-    let length = io::read_full(STDIN_FILENO, &mut space);
-    print_all(&space[..length]);
+fn main(rt: HostRuntime) -> io::Result<()> {
+    let mut space = [0u8; 65536];
+    let length = read_full(&mut rt.stdin(), &mut space)?;
+    print_all(&rt, &space[..length])
 }

@@ -3,26 +3,26 @@
 #![tactic(auto)]
 
 use chart_list::line::{put_bytes, put_number};
-use libc::STDOUT_FILENO;
+use std::io;
 
-fn print_line(n: u64) {
+fn print_line(rt: &impl Print, n: u64) -> io::Result<()> {
     let mut line = [0u8; 21];
     let digits = put_number(&mut line, 0, n);
     let end = put_bytes(&mut line, digits, b"\n");
-    io::write_all(STDOUT_FILENO, &line[..end]);
+    rt.write_all(&line[..end])
 }
 
-fn main() {
-    print_line(0);
+fn main(rt: HostRuntime) -> io::Result<()> {
+    print_line(&rt, 0)?;
     let mut power: u64 = 1;
-    loop {
-        print_line(power - 1);
-        print_line(power);
-        print_line(power + 1);
+    'powers: loop {
+        print_line(&rt, power - 1)?;
+        print_line(&rt, power)?;
+        print_line(&rt, power + 1)?;
         if power > u64::MAX / 10 {
             break;
         }
         power *= 10;
     }
-    print_line(u64::MAX);
+    print_line(&rt, u64::MAX)
 }

@@ -7,22 +7,24 @@ mod others;
 
 use chart::print_chart;
 use chart_list::read::next_chart;
-use libc::STDIN_FILENO;
+use chart_list::stream::read_full;
+use std::io;
 
-fn print_all(list: &[u8]) {
+fn print_all(rt: &impl Print, list: &[u8]) -> io::Result<()> {
     let mut measures = [0u32; 4096];
     let mut at = 0;
     while at < list.len() {
         let chart = next_chart(list, at, &mut measures);
         let count = chart.measures;
         let next = chart.next;
-        print_chart(&list[at..next], &measures[..count]);
+        print_chart(rt, &list[at..next], &measures[..count])?;
         at = next;
     }
+    Ok(())
 }
 
-fn main() {
-    let mut space = io::large_buffer();
-    let length = io::read_full(STDIN_FILENO, &mut space);
-    print_all(&space[..length]);
+fn main(rt: HostRuntime) -> io::Result<()> {
+    let mut space = [0u8; 65536];
+    let length = read_full(&mut rt.stdin(), &mut space)?;
+    print_all(&rt, &space[..length])
 }

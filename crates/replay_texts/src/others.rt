@@ -4,23 +4,13 @@ ghost use Rattle.std.specs.Prelude.{◌≤◌};
 use chart_texts::ThreeWritten;
 use chart_texts::single::{generate_breakdown, stream_breakdown};
 use chart_texts::three::{generate_breakdowns, stream_breakdowns};
-use libc::STDOUT_FILENO;
 use number::Written;
 use rules::{BreakdownMode, StreamBreakdownLevel};
+use std::io;
 
 // Do two slices hold the same bytes?
 fn same(a: &[u8], b: &[u8]) -> bool {
-    if a.len() != b.len() {
-        return false;
-    }
-    let mut i = 0;
-    while i < a.len() {
-        if a[i] != b[i] {
-            return false;
-        }
-        i += 1;
-    }
-    true
+    a == b
 }
 
 // One text, by its place in the pass.
@@ -46,10 +36,17 @@ fn one_agrees(m: &[u32], kind: usize, text: &[u8], space: &mut [u8]) -> bool {
     equal && written.refused == 0 && written.length == length
 }
 
-pub fn compare_one(m: &[u32], kind: usize, text: &[u8], space: &mut [u8]) {
+pub fn compare_one(
+    rt: &impl Print,
+    m: &[u32],
+    kind: usize,
+    text: &[u8],
+    space: &mut [u8],
+) -> io::Result<()> {
     if !one_agrees(m, kind, text, space) {
-        io::write_all(STDOUT_FILENO, b"differs: a call for one text\n");
+        rt.write_all(b"differs: a call for one text\n")?;
     }
+    Ok(())
 }
 
 fn three(m: &[u32], first: usize, out: &mut [u8]) -> ThreeWritten {
@@ -83,10 +80,18 @@ fn three_agree(
         && ours[2] == lengths[first + 2]
 }
 
-pub fn compare_three(m: &[u32], first: usize, texts: &[u8], lengths: &[usize; 6], space: &mut [u8])
+pub fn compare_three(
+    rt: &impl Print,
+    m: &[u32],
+    first: usize,
+    texts: &[u8],
+    lengths: &[usize; 6],
+    space: &mut [u8],
+) -> io::Result<()>
     requires { first ≤ 3 }
 {
     if !three_agree(m, first, texts, lengths, space) {
-        io::write_all(STDOUT_FILENO, b"differs: a call for three texts\n");
+        rt.write_all(b"differs: a call for three texts\n")?;
     }
+    Ok(())
 }

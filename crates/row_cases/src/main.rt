@@ -4,8 +4,9 @@
 
 use chart_list::cases::{case_at, number_of};
 use chart_list::line::{put_bytes, put_number};
-use libc::{STDIN_FILENO, STDOUT_FILENO};
+use chart_list::stream::read_full;
 use note_rows::{RowsAnswer, read_note_rows};
+use std::io;
 
 // A space, and a number behind it.
 fn put(out: &mut [u8], at: usize, n: u64) -> usize {
@@ -19,61 +20,60 @@ fn wide(x: u32) -> u64 {
 
 fn put_places(out: &mut [u8], at: usize, densities: &[u32]) -> usize {
     let mut end = at;
-    let mut k = 0;
-    while k < densities.len() {
-        end = put(out, end, wide(densities[k]));
-        k += 1;
+    for density in densities {
+        end = put(out, end, wide(*density));
     }
     end
 }
 
-fn print_line(answer: RowsAnswer, densities: &[u32]) {
+fn print_line(rt: &impl Print, answer: RowsAnswer, densities: &[u32]) -> io::Result<()> {
     // Room for any 4,100 numbers of 32 bits.
-    let mut line = io::large_buffer();
+    let mut line = [0u8; 65536];
     let refused_end = put_number(&mut line, 0, answer.refused as u64);
     let measures_end = put(&mut line, refused_end, answer.measures as u64);
     let places_end = put_places(&mut line, measures_end, densities);
     let end = put_bytes(&mut line, places_end, b"\n");
-    io::write_all(STDOUT_FILENO, &line[..end]);
+    rt.write_all(&line[..end])
 }
 
 // The first `places` of the densities are lent.
-fn lend(text: &[u8], places: usize, densities: &mut [u32]) {
+fn lend(rt: &impl Print, text: &[u8], places: usize, densities: &mut [u32]) -> io::Result<()> {
     if densities.len() < places {
-        return;
+        return Ok(());
     }
     let answer = read_note_rows(text, &mut densities[0..places]);
-    print_line(answer, &densities[0..places]);
+    print_line(rt, answer, &densities[0..places])
 }
 
-fn print_one(text: &[u8], places: usize) {
+fn print_one(rt: &impl Print, text: &[u8], places: usize) -> io::Result<()> {
     let mut densities = [7u32; 4100];
-    lend(text, places, &mut densities);
+    lend(rt, text, places, &mut densities)
 }
 
-fn print_case(case: &[u8]) {
+fn print_case(rt: &impl Print, case: &[u8]) -> io::Result<()> {
     if case.len() < 2 {
-        return;
+        return Ok(());
     }
-    print_one(&case[2..], number_of(0, case[0], case[1]));
+    print_one(rt, &case[2..], number_of(0, case[0], case[1]))
 }
 
-fn print_all(list: &[u8]) {
+fn print_all(rt: &impl Print, list: &[u8]) -> io::Result<()> {
     let mut at = 0;
     while at < list.len() {
         let case = case_at(list, at);
         if !case.whole {
-            return;
+            return Ok(());
         }
         let start = case.start;
         let end = case.end;
-        print_case(&list[start..end]);
+        print_case(rt, &list[start..end])?;
         at = end;
     }
+    Ok(())
 }
 
-fn main() {
-    let mut space = io::large_buffer();
-    let count = io::read_full(STDIN_FILENO, &mut space);
-    print_all(&space[..count]);
+fn main(rt: HostRuntime) -> io::Result<()> {
+    let mut space = [0u8; 65536];
+    let count = read_full(&mut rt.stdin(), &mut space)?;
+    print_all(&rt, &space[..count])
 }

@@ -2,33 +2,40 @@
 #![tactic(auto)]
 
 use chart_list::cases::case_at;
-use libc::{STDIN_FILENO, STDOUT_FILENO};
+use chart_list::stream::read_full;
 use sheet_lines::print_sheet;
+use std::io;
 
-fn print_one(record: &[u8]) {
+fn print_one(rt: &impl Print, record: &[u8]) -> io::Result<()> {
     let sheet = print_sheet(record);
     let bytes = sheet.bytes;
     let length = sheet.length;
-    io::write_all(STDOUT_FILENO, &bytes[..length]);
+    rt.write_all(&bytes[..length])
 }
 
-fn print_all(list: &[u8]) {
+fn print_all(rt: &impl Print, list: &[u8]) -> io::Result<()> {
     let mut at = 0;
     while at < list.len() {
         let case = case_at(list, at);
         if !case.whole {
-            return;
+            return Ok(());
         }
         let start = case.start;
         let end = case.end;
-        print_one(&list[start..end]);
+        print_one(rt, &list[start..end])?;
         at = end;
     }
+    Ok(())
 }
 
-fn main() {
+// The list that is read into `space`.
+fn print_list(rt: &(impl Input + Print), space: &mut [u8]) -> io::Result<()> {
+    let count = read_full(&mut rt.reader(), space)?;
+    print_all(rt, &space[..count])
+}
+
+fn main(rt: HostRuntime) -> io::Result<()> {
     // Room for the whole list.
     let mut space = [0u8; 524288];
-    let count = io::read_full(STDIN_FILENO, &mut space);
-    print_all(&space[..count]);
+    print_list(&rt, &mut space)
 }
