@@ -8,7 +8,7 @@ use Rattle.text_buffer.specs.Runs.{run_text}
 use Rattle.breakdown.specs.Forms.{text_of}
 use Rattle.number.proofs.Grown.{within}
 use Rattle.text_buffer.proofs.Added.{added, added-ready, added-room, grown-room, grown-added}
-use Rattle.breakdown.proofs.PartByPart.{none-text, class, tokens-behind, tokens-text, tokens-all}
+use Rattle.breakdown.proofs.PartByPart.{none-text, class-here, tokens-behind, tokens-text, tokens-all}
 use Rattle.breakdown.proofs.text.text_of_tokens.Goals as goal
 
 pub add_none-full-requires : goal.add_none-full-requires
@@ -31,7 +31,7 @@ returns-then-cs-eq0 c =
     (grown-added _ c.add_none-full.ensures c.flush.ensures)
 
 pub first_run-first-requires : goal.first_run-first-requires
-first_run-first-requires c = class c.requires.0 c.if-cs-eq0.false
+first_run-first-requires c = class-here c.requires.0 c.if-cs-eq0.false
 
 pub text_part-done-requires : goal.text_part-done-requires
 text_part-done-requires c =
