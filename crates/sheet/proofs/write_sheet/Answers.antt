@@ -1,8 +1,8 @@
--- `sheet::copy_sheet` meets its contract: what was read and written is told by the reader and the writer.
+-- `sheet::write_sheet` meets its contract: what was read and written is told by the reader and the writer.
 -- Assumes nothing.
 use Rattle.std.proofs.lemmas.Result.{on_ok_weaker}
 use Rattle.sheet.proofs.Whole.{copied}
-use Rattle.sheet.proofs.copy_sheet.Goals as goal
+use Rattle.sheet.proofs.write_sheet.Goals as goal
 
 pub returns : goal.returns
 returns g c =
