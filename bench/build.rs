@@ -1,4 +1,4 @@
-// Links the proved archive that `rt staticlib puvolamie_c` writes and, where `before.sh` made it, that of an earlier commit.
+// Links the proved archive that c/library.sh writes and, where `before.sh` made it, that of an earlier commit.
 fn main() {
     let target = format!("{}/../target", std::env::var("CARGO_MANIFEST_DIR").unwrap());
     link(&format!("{target}/staticlib"), "puvolamie_c");

@@ -1,6 +1,5 @@
-//! Links the static library that `rt staticlib puvolamie_c` makes, and has it made where it is missing.
+//! Links the static library that c/library.sh makes, and has it made where it is missing.
 
-use std::io::ErrorKind;
 use std::path::Path;
 use std::process::{exit, Command};
 
@@ -23,20 +22,13 @@ fn main() {
 fn make_library(root: &Path) -> Result<(), String> {
     let place = root.canonicalize().unwrap_or_default();
     let place = place.display();
-    let made = Command::new("rt")
-        .args(["staticlib", "puvolamie_c"])
-        .current_dir(root)
-        .output();
-    match made {
+    match Command::new("c/library.sh").current_dir(root).output() {
         Ok(said) if said.status.success() => Ok(()),
         Ok(said) => Err(format!(
-            "{}{}`rt staticlib puvolamie_c` failed in {place}.",
+            "{}{}`c/library.sh` failed in {place}.",
             String::from_utf8_lossy(&said.stdout),
             String::from_utf8_lossy(&said.stderr)
         )),
-        Err(e) if e.kind() == ErrorKind::NotFound => Err(format!(
-            "libpuvolamie_c.a is missing and `rt` is not on the path: run `rt staticlib puvolamie_c` in {place}."
-        )),
-        Err(e) => Err(format!("`rt staticlib puvolamie_c` could not be run in {place}: {e}.")),
+        Err(e) => Err(format!("`c/library.sh` could not be run in {place}: {e}.")),
     }
 }

@@ -89,8 +89,11 @@ all-accepted =
           (p.answer ∙ rw (cs₁, ts₁, ls₁, z), p.in_classes ∙ kept q _ _ z, p.in_lengths ∙ kept q _ _ z, p.bytes ∙ kept q _ _ z);
       label = λ width m old new r p h.
           let q = label_no width m old in
-          let z : q ≡ 0 = sym (ap (λ (w : LabelWritten). w.refused) p.answer) ∙ h in
-          (p.answer ∙ rw (kept q (label_level (label_choice width m)) 0 z, kept q (length (label_text (label_choice width m) m)) 0 z, z), p.bytes ∙ kept q _ _ z);
+          let z : q ≡ 0 = sym (ap (λ (w : LabelWritten). w.refused) p.answer) ∙ h in (
+            p.answer ∙ rw (kept q (label_level (label_choice width m)) 0 z, kept q (length (label_text (label_choice width m) m)) 0 z, z),
+            p.bytes
+                ∙ kept q _ _ z,
+          );
       segments = λ m old new r p h.
           let q = segments_no m old in
           let z : q ≡ 0 = sym (ap (λ (w : SegmentsAnswer). w.refused) p.answer) ∙ h in

@@ -1,6 +1,8 @@
 -- The active part, by place: what is left of a chart behind its lead-in, up to its last stream measure.
 -- Assumes nothing.
-use Rattle.std.proofs.Common.{◌≡◌, ℕ, zero, suc, ◌-◌, ◌<◌, ◌≤◌, ltb, List, [], ◌∷◌, ◌++◌, length, get_or, take, drop, sym, refl, ap, ◌∙◌, le_of_suc-le-suc, not-suc-le-zero, sub-one, arith, length-drop, length-take, length-take-le, take_all, take-suc, le-ltb}
+use Rattle.std.proofs.Common.{◌≡◌, ℕ, zero, suc, ◌-◌, ◌<◌, ◌≤◌, ltb, List, [], ◌∷◌, ◌++◌, length, get_or, take, drop, sym, refl, ap, ◌∙◌}
+use Rattle.std.proofs.Common.{le_of_suc-le-suc, not-suc-le-zero, sub-one, arith, length-drop, length-take, length-take-le, take_all, take-suc}
+use Rattle.std.proofs.Common.{le-ltb}
 use lib.ListN.{length-map, get_or-map}
 use Rattle.rules.specs.Chart.{class_of, classes, lead_in, from_first, keep, to_last, active, active_part, runs, tokens}
 use Rattle.rules.proofs.Steps.{class-0, map-drop, active-part}

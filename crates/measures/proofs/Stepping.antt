@@ -1,6 +1,7 @@
 -- For the token stepper: how many measures at the front are of one class, and what token that makes.
 -- Assumes nothing.
-use Rattle.std.proofs.Common.{◌≡◌, ℕ, suc, ◌+◌, ◌<◌, ◌≤◌, true, false, List, length, get_or, drop, refl, add-one, arith, drop_of_length-le, drop-cons, eq-eqb, ne_eqb}
+use Rattle.std.proofs.Common.{◌≡◌, ℕ, suc, ◌+◌, ◌<◌, ◌≤◌, true, false, List, length, get_or, drop, refl, add-one, arith, drop_of_length-le}
+use Rattle.std.proofs.Common.{drop-cons, eq-eqb, ne_eqb}
 use Rattle.rules.specs.Chart.{class_of, classes}
 use Rattle.rules.specs.Calls.{step_at}
 use Rattle.rules.specs.Slices.{leading}

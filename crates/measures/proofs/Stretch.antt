@@ -30,7 +30,8 @@ module _ (m : List ℕ) (lo more : ℕ) where
 
   -- the four from i on
   pub block : (i a b c d : ℕ) → i + 4 ≤ length m → lo + more < 2 ^ 32
-      → (a + lo) % 2 ^ 32 ≡ get_or m i 0 → (b + lo) % 2 ^ 32 ≡ get_or m (i + 1) 0 → (c + lo) % 2 ^ 32 ≡ get_or m (i + 2) 0 → (d + lo) % 2 ^ 32 ≡ get_or m (i + 3) 0
+      → (a + lo) % 2 ^ 32 ≡ get_or m i 0 → (b + lo) % 2 ^ 32 ≡ get_or m (i + 1) 0 → (c + lo) % 2 ^ 32 ≡ get_or m (i + 2) 0
+      → (d + lo) % 2 ^ 32 ≡ get_or m (i + 3) 0
       → leb a more && leb b more && leb c more && leb d more ≡ true → Stretch m i lo more (i + 4)
   block i a b c d h f wa wb wc wd t =
       let abc = (and-eq-true_iff (leb a more && leb b more && leb c more) (leb d more)).0 t in

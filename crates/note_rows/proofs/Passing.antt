@@ -13,7 +13,8 @@ use Rattle.number.specs.Place.{Wrote}
 use Rattle.number.proofs.Split.{split}
 use Rattle.number.proofs.Questions.{refused-is}
 use Rattle.number.proofs.Place.{still, wrote, wrote-length}
-use Rattle.note_rows.specs.NoteRows.{Lines, end, cut, line, lines_of, is_row, note, is_byte, is_end, add_row, measures, density, row_densities, lines_no, text_no}
+use Rattle.note_rows.specs.NoteRows.{Lines, end, cut, line, lines_of, is_row, note, is_byte, is_end, add_row, measures, density, row_densities}
+use Rattle.note_rows.specs.NoteRows.{lines_no, text_no}
 use Rattle.note_rows.specs.Steps.{first_row, first_end, MeasuresRead, accepted_with, refusal_of}
 use Rattle.note_rows.specs.declared.RowsAnswer.{RowsAnswer}
 use Rattle.note_rows.specs.declared.line.Ending.TheVariants.{Fault}

@@ -67,7 +67,7 @@ cut-behind (k ∷ ks) m before rest start e =
     let more = end_to_end ks m ++ rest in
     let next = cut-behind ks m (before ++ t) rest (start + length t) (length-append before t ∙ rw e) in
     let whole : before ++ (end_to_end (k ∷ ks) m ++ rest) ≡ before ++ (t ++ more) =
-        ap (λ (l : List ℕ). before ++ l) (append_assoc t (end_to_end ks m) rest) in
+    ap (λ (l : List ℕ). before ++ l) (append_assoc t (end_to_end ks m) rest) in
     subst (λ (l : List ℕ). cut_lines l start (lengths_of (k ∷ ks) m) ≡ text_lines (k ∷ ks) m) (sym whole)
     (rw (drop_at before (t ++ more) start e, take_at t more (length t) refl) (ap (λ (l : List ℕ). line t ++ l) (rw append_assoc at next)))
 

@@ -421,7 +421,8 @@ pub summing-starts : (cs ns : List ℕ) (start c : ℕ) → MayFollow c (paired 
 summing-starts cs ns start c b = record { sum = λ more. refl; earlier = c; behind = b; short = omega arith }
 
 module _ {cs ns : List ℕ} {start total i : ℕ} (w : Summing cs ns start total i) where
-  pub summing-next : length cs ≡ length ns → i + 1 < length cs → {x : ℕ} → Measured (ended 0 (drop_ones (token (get_or cs i 0) (get_or ns i 0) false ∷ []))) 23 x
+  pub summing-next : length cs ≡ length ns → i + 1 < length cs → {x : ℕ}
+      → Measured (ended 0 (drop_ones (token (get_or cs i 0) (get_or ns i 0) false ∷ []))) 23 x
       → Summing cs ns start (total + x) (i + 1)
   summing-next l h {x} m =
       let chunk = ended 0 (drop_ones (token (get_or cs i 0) (get_or ns i 0) false ∷ [])) in

@@ -108,7 +108,8 @@ module _ {text : List ℕ} {i n : ℕ} (g : Block text i n) where
         get_or-drop i (shown_bytes 41 text) j 0 ∙ rw (add-one (i + j)) (rw s at e)
 
     pub fill_on : (block : List ℕ) (b : ℕ) → j < length block → take j block ≡ shown_part text i j
-        → b ≡ shown_byte (get_or text (i + j - 1) 0) (get_or text (i + j) 0) (get_or text (i + j + 1) 0) → take (j + 1) (set block j b) ≡ shown_part text i (j + 1)
+        → b ≡ shown_byte (get_or text (i + j - 1) 0) (get_or text (i + j) 0) (get_or text (i + j + 1) 0)
+        → take (j + 1) (set block j b) ≡ shown_part text i (j + 1)
     fill_on block b l e q =
         let k : j < length (drop i (shown_bytes 41 text)) = simp (length-drop, shown-length) (omega (arith, g.last)) in
         rw (add-one j, take-suc-set block j b l, take-suc (drop i (shown_bytes 41 text)) j 0 k, e, due, q)

@@ -1,8 +1,6 @@
 -- `label::choose` meets its contract. The loop's invariant: the choice is among the levels from number n on.
 -- Assumes nothing.
-use Prim.Native.Nat.{◌-◌}
-use native.Mathlib.Omega.{arith}
-use Rattle.label.proofs.Levels.{Trying, first, next, fits, none}
+use Rattle.label.proofs.Levels.{first, next, fits, none}
 use Rattle.label.proofs.choose.Goals as goal
 
 pub loop-level-init : goal.loop-level-init

@@ -1,8 +1,7 @@
 -- `label::choose` meets its contract. The loop's invariant: the choice is among the levels from number n on.
 -- Assumes nothing.
 use Prim.Native.Nat.{◌-◌}
-use native.Mathlib.Omega.{arith}
-use Rattle.label.proofs.Levels.{Trying, first, next, fits, none}
+use Rattle.label.proofs.Levels.{Trying}
 use Rattle.label.proofs.choose.Given as goal
 
 abbrev pub invariant-loop-level : goal.invariant-loop-level

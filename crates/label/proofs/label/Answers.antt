@@ -3,7 +3,6 @@
 use mathlib.Core.Path.{sym, ◌∙◌}
 use Rattle.chart_texts.proofs.Answers.{said-no, said-yes, breakdown-room}
 use Rattle.label.proofs.Levels.{label-1, label-6, label-4, label-0}
-use borrow.Author.Rules.{rules}
 use Rattle.label.proofs.label.Goals as goal
 
 pub returns-then-m-gt1048576 : goal.returns-then-m-gt1048576

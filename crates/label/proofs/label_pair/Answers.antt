@@ -1,7 +1,6 @@
 -- `label::label_pair` meets its contract.
 -- Assumes nothing.
 use borrow.Author.Tests.{le-leb, lt-leb}
-use borrow.Author.Rules.{rules}
 use Rattle.label.proofs.label_pair.Goals as goal
 
 pub returns-then-first-width : goal.returns-then-first-width

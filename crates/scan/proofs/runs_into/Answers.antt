@@ -29,7 +29,8 @@ ready : (c : After-run_on-j) (count : ℕ) →
     → count ≤ 16
     → Steps s.m.now c.run_on-j.result count l.cs (set l.ns l.p.place n) (record { class = l.p.class; length = n; place = l.p.place })
 ready c count h b =
-    let invariant-here : let s = c.args in let l = c.loop-i in ScanInvariant s.m.now s.cs.now s.ns.now l.cs l.ns s.most l.p.class l.p.length l.p.place l.i = let a = c.args in
+    let invariant : let s = c.args in let l = c.loop-i in ScanInvariant s.m.now s.cs.now s.ns.now l.cs l.ns s.most l.p.class l.p.length l.p.place l.i = let a =
+    c.args in
     c.loop-i.invariant a.cs.now a.ns.now
     (rw c.class_at-c.ensures (starts a.m.now a.cs.now a.ns.now a.most (omega arith) c.requires.room_c c.requires.room_n)) in
     record {
@@ -39,7 +40,7 @@ ready c count h b =
       low = omega (arith, c.if-k-most.false);
       old = c.args.cs.now;
       new = c.args.ns.now;
-      invariant = on c _ _ invariant-here;
+      invariant = on c _ _ invariant;
     }
 
 pub returns-then-m-eq0 : goal.returns-then-m-eq0
@@ -58,76 +59,86 @@ loop-i-init c = λ old new g. g
 
 pub overflow_cast-i : goal.overflow_cast-i
 overflow_cast-i c =
-    let invariant-here : let s = c.args in let l = c.loop-i in ScanInvariant s.m.now s.cs.now s.ns.now l.cs l.ns s.most l.p.class l.p.length l.p.place l.i = let a = c.args in
+    let invariant : let s = c.args in let l = c.loop-i in ScanInvariant s.m.now s.cs.now s.ns.now l.cs l.ns s.most l.p.class l.p.length l.p.place l.i = let a =
+    c.args in
     c.loop-i.invariant a.cs.now a.ns.now
     (rw c.class_at-c.ensures (starts a.m.now a.cs.now a.ns.now a.most (omega arith) c.requires.room_c c.requires.room_n)) in
-    let g = invariant-here in omega (arith, g.sum)
+    let g = invariant in omega (arith, g.sum)
 
 pub overflow_sub-i : goal.overflow_sub-i
 overflow_sub-i c =
-    let invariant-here : let s = c.args in let l = c.loop-i in ScanInvariant s.m.now s.cs.now s.ns.now l.cs l.ns s.most l.p.class l.p.length l.p.place l.i = let a = c.args in
+    let invariant : let s = c.args in let l = c.loop-i in ScanInvariant s.m.now s.cs.now s.ns.now l.cs l.ns s.most l.p.class l.p.length l.p.place l.i = let a =
+    c.args in
     c.loop-i.invariant a.cs.now a.ns.now
     (rw c.class_at-c.ensures (starts a.m.now a.cs.now a.ns.now a.most (omega arith) c.requires.room_c c.requires.room_n)) in
-    let g = invariant-here in omega (arith, g.sum)
+    let g = invariant in omega (arith, g.sum)
 
 pub shape_of-cs-then-k-most : goal.shape_of-cs-then-k-most
 shape_of-cs-then-k-most c =
-    let invariant-here : let s = c.args in let l = c.loop-i in ScanInvariant s.m.now s.cs.now s.ns.now l.cs l.ns s.most l.p.class l.p.length l.p.place l.i = let a = c.args in
+    let invariant : let s = c.args in let l = c.loop-i in ScanInvariant s.m.now s.cs.now s.ns.now l.cs l.ns s.most l.p.class l.p.length l.p.place l.i = let a =
+    c.args in
     c.loop-i.invariant a.cs.now a.ns.now
     (rw c.class_at-c.ensures (starts a.m.now a.cs.now a.ns.now a.most (omega arith) c.requires.room_c c.requires.room_n)) in
-    long_c invariant-here
+    long_c invariant
 
 pub shape_of-ns-then-k-most : goal.shape_of-ns-then-k-most
 shape_of-ns-then-k-most c =
-    let invariant-here : let s = c.args in let l = c.loop-i in ScanInvariant s.m.now s.cs.now s.ns.now l.cs l.ns s.most l.p.class l.p.length l.p.place l.i = let a = c.args in
+    let invariant : let s = c.args in let l = c.loop-i in ScanInvariant s.m.now s.cs.now s.ns.now l.cs l.ns s.most l.p.class l.p.length l.p.place l.i = let a =
+    c.args in
     c.loop-i.invariant a.cs.now a.ns.now
     (rw c.class_at-c.ensures (starts a.m.now a.cs.now a.ns.now a.most (omega arith) c.requires.room_c c.requires.room_n)) in
-    long_n invariant-here
+    long_n invariant
 
 pub returns-then-k-most : goal.returns-then-k-most
 returns-then-k-most c =
-    let invariant-here : let s = c.args in let l = c.loop-i in ScanInvariant s.m.now s.cs.now s.ns.now l.cs l.ns s.most l.p.class l.p.length l.p.place l.i = let a = c.args in
+    let invariant : let s = c.args in let l = c.loop-i in ScanInvariant s.m.now s.cs.now s.ns.now l.cs l.ns s.most l.p.class l.p.length l.p.place l.i = let a =
+    c.args in
     c.loop-i.invariant a.cs.now a.ns.now
     (rw c.class_at-c.ensures (starts a.m.now a.cs.now a.ns.now a.most (omega arith) c.requires.room_c c.requires.room_n)) in
-    stopped invariant-here c.loop-i-test.true c.if-k-most.true
+    stopped invariant c.loop-i-test.true c.if-k-most.true
 
 pub run_on-j-requires : goal.run_on-j-requires
 run_on-j-requires c =
-    let invariant-here : let s = c.args in let l = c.loop-i in ScanInvariant s.m.now s.cs.now s.ns.now l.cs l.ns s.most l.p.class l.p.length l.p.place l.i = let a = c.args in
+    let invariant : let s = c.args in let l = c.loop-i in ScanInvariant s.m.now s.cs.now s.ns.now l.cs l.ns s.most l.p.class l.p.length l.p.place l.i = let a =
+    c.args in
     c.loop-i.invariant a.cs.now a.ns.now
     (rw c.class_at-c.ensures (starts a.m.now a.cs.now a.ns.now a.most (omega arith) c.requires.room_c c.requires.room_n)) in
-    (omega arith, invariant-here.small)
+    (omega arith, invariant.small)
 
 pub overflow_sub-p : goal.overflow_sub-p
 overflow_sub-p c = omega (arith, c.run_on-j.ensures.onward)
 
 pub overflow_cast-p : goal.overflow_cast-p
 overflow_cast-p c =
-    let invariant-here : let s = c.args in let l = c.loop-i in ScanInvariant s.m.now s.cs.now s.ns.now l.cs l.ns s.most l.p.class l.p.length l.p.place l.i = let a = c.args in
+    let invariant : let s = c.args in let l = c.loop-i in ScanInvariant s.m.now s.cs.now s.ns.now l.cs l.ns s.most l.p.class l.p.length l.p.place l.i = let a =
+    c.args in
     c.loop-i.invariant a.cs.now a.ns.now
     (rw c.class_at-c.ensures (starts a.m.now a.cs.now a.ns.now a.most (omega arith) c.requires.room_c c.requires.room_n)) in
-    let g = invariant-here in omega (arith, c.run_on-j.ensures.within)
+    let g = invariant in omega (arith, c.run_on-j.ensures.within)
 
 pub overflow_add-p : goal.overflow_add-p
 overflow_add-p c =
-    let invariant-here : let s = c.args in let l = c.loop-i in ScanInvariant s.m.now s.cs.now s.ns.now l.cs l.ns s.most l.p.class l.p.length l.p.place l.i = let a = c.args in
+    let invariant : let s = c.args in let l = c.loop-i in ScanInvariant s.m.now s.cs.now s.ns.now l.cs l.ns s.most l.p.class l.p.length l.p.place l.i = let a =
+    c.args in
     c.loop-i.invariant a.cs.now a.ns.now
     (rw c.class_at-c.ensures (starts a.m.now a.cs.now a.ns.now a.most (omega arith) c.requires.room_c c.requires.room_n)) in
-    let g = invariant-here in omega (arith, g.sum, c.run_on-j.ensures.within)
+    let g = invariant in omega (arith, g.sum, c.run_on-j.ensures.within)
 
 pub offset_bounds-ns-k : goal.offset_bounds-ns-k
 offset_bounds-ns-k c =
-    let invariant-here : let s = c.args in let l = c.loop-i in ScanInvariant s.m.now s.cs.now s.ns.now l.cs l.ns s.most l.p.class l.p.length l.p.place l.i = let a = c.args in
+    let invariant : let s = c.args in let l = c.loop-i in ScanInvariant s.m.now s.cs.now s.ns.now l.cs l.ns s.most l.p.class l.p.length l.p.place l.i = let a =
+    c.args in
     c.loop-i.invariant a.cs.now a.ns.now
     (rw c.class_at-c.ensures (starts a.m.now a.cs.now a.ns.now a.most (omega arith) c.requires.room_c c.requires.room_n)) in
-    let g = invariant-here in omega (arith, g.few)
+    let g = invariant in omega (arith, g.few)
 
 pub bounds-ns-k : goal.bounds-ns-k
 bounds-ns-k c =
-    let invariant-here : let s = c.args in let l = c.loop-i in ScanInvariant s.m.now s.cs.now s.ns.now l.cs l.ns s.most l.p.class l.p.length l.p.place l.i = let a = c.args in
+    let invariant : let s = c.args in let l = c.loop-i in ScanInvariant s.m.now s.cs.now s.ns.now l.cs l.ns s.most l.p.class l.p.length l.p.place l.i = let a =
+    c.args in
     c.loop-i.invariant a.cs.now a.ns.now
     (rw c.class_at-c.ensures (starts a.m.now a.cs.now a.ns.now a.most (omega arith) c.requires.room_c c.requires.room_n)) in
-    (places invariant-here).1
+    (places invariant).1
 
 pub overflow_sub-m : goal.overflow_sub-m
 overflow_sub-m c = omega (arith, c.run_on-j.ensures.within)
@@ -137,7 +148,8 @@ steps_into-p-requires c = ready (goal.at.steps_into-p-requires c).After-run_on-j
 
 pub steps_into-p-requires-then-m-j-gt16 : goal.steps_into-p-requires-then-m-j-gt16
 steps_into-p-requires-then-m-j-gt16 c =
-    let invariant-here : let s = c.args in let l = c.loop-i in ScanInvariant s.m.now s.cs.now s.ns.now l.cs l.ns s.most l.p.class l.p.length l.p.place l.i = let a = c.args in
+    let invariant : let s = c.args in let l = c.loop-i in ScanInvariant s.m.now s.cs.now s.ns.now l.cs l.ns s.most l.p.class l.p.length l.p.place l.i = let a =
+    c.args in
     c.loop-i.invariant a.cs.now a.ns.now
     (rw c.class_at-c.ensures (starts a.m.now a.cs.now a.ns.now a.most (omega arith) c.requires.room_c c.requires.room_n)) in
     record {
@@ -147,7 +159,10 @@ steps_into-p-requires-then-m-j-gt16 c =
       low = omega (arith, c.steps_into-p.ensures.near, c.if-k-most.false);
       old = c.args.cs.now;
       new = c.args.ns.now;
-      invariant = c.steps_into-p.ensures.onward _ _ _ (omega (arith, c.if-k-most.false)) (on (goal.at.steps_into-p-requires-then-m-j-gt16 c).After-run_on-j _ _ invariant-here);
+      invariant = c.steps_into-p.ensures.onward _ _ _ (omega (
+        arith,
+        c.if-k-most.false,
+      )) (on (goal.at.steps_into-p-requires-then-m-j-gt16 c).After-run_on-j _ _ invariant);
     }
 
 pub overflow_add-i : goal.overflow_add-i
@@ -167,39 +182,49 @@ loop-i-preserved-then-m-j-gt16 c =
     (c.steps_into-p.ensures.onward _ old new (omega (arith, c.if-k-most.false)) (on (goal.at.loop-i-preserved-then-m-j-gt16 c).After-run_on-j old new (c.loop-i.invariant old new g))))
 
 pub steps_into-p-requires-else-m-j-gt16 : goal.steps_into-p-requires-else-m-j-gt16
-steps_into-p-requires-else-m-j-gt16 c = ready (goal.at.steps_into-p-requires-else-m-j-gt16 c).After-run_on-j _ (omega (arith, c.run_on-j.ensures.within)) (omega arith)
+steps_into-p-requires-else-m-j-gt16 c = ready (goal.at.steps_into-p-requires-else-m-j-gt16 c).After-run_on-j _ (omega (
+  arith,
+  c.run_on-j.ensures.within,
+)) (omega arith)
 
 pub loop-i-preserved : goal.loop-i-preserved
 loop-i-preserved c =
     let m = c.args.m.now in
     let e : c.run_on-j.result + (length m - c.run_on-j.result) ≡ length m = omega (arith, c.run_on-j.ensures.within) in
     λ old new g.
-    rw e at (c.steps_into-p-else-m-j-gt16.ensures.onward _ old new (omega (arith, c.if-k-most.false)) (on (goal.at.loop-i-preserved c).After-run_on-j old new (c.loop-i.invariant old new g)))
+    rw e at (c.steps_into-p-else-m-j-gt16.ensures.onward _ old new (omega (
+      arith,
+      c.if-k-most.false,
+    )) (on (goal.at.loop-i-preserved c).After-run_on-j old new (c.loop-i.invariant old new g)))
 
 pub overflow_add-tokens : goal.overflow_add-tokens
 overflow_add-tokens c =
-    let invariant-here : let s = c.args in let l = c.loop-i in ScanInvariant s.m.now s.cs.now s.ns.now l.cs l.ns s.most l.p.class l.p.length l.p.place l.i = let a = c.args in
+    let invariant : let s = c.args in let l = c.loop-i in ScanInvariant s.m.now s.cs.now s.ns.now l.cs l.ns s.most l.p.class l.p.length l.p.place l.i = let a =
+    c.args in
     c.loop-i.invariant a.cs.now a.ns.now
     (rw c.class_at-c.ensures (starts a.m.now a.cs.now a.ns.now a.most (omega arith) c.requires.room_c c.requires.room_n)) in
-    let g = invariant-here in omega arith
+    let g = invariant in omega arith
 
 pub shape_of-cs : goal.shape_of-cs
 shape_of-cs c =
-    let invariant-here : let s = c.args in let l = c.loop-i in ScanInvariant s.m.now s.cs.now s.ns.now l.cs l.ns s.most l.p.class l.p.length l.p.place l.i = let a = c.args in
+    let invariant : let s = c.args in let l = c.loop-i in ScanInvariant s.m.now s.cs.now s.ns.now l.cs l.ns s.most l.p.class l.p.length l.p.place l.i = let a =
+    c.args in
     c.loop-i.invariant a.cs.now a.ns.now
     (rw c.class_at-c.ensures (starts a.m.now a.cs.now a.ns.now a.most (omega arith) c.requires.room_c c.requires.room_n)) in
-    long_c invariant-here
+    long_c invariant
 
 pub shape_of-ns : goal.shape_of-ns
 shape_of-ns c =
-    let invariant-here : let s = c.args in let l = c.loop-i in ScanInvariant s.m.now s.cs.now s.ns.now l.cs l.ns s.most l.p.class l.p.length l.p.place l.i = let a = c.args in
+    let invariant : let s = c.args in let l = c.loop-i in ScanInvariant s.m.now s.cs.now s.ns.now l.cs l.ns s.most l.p.class l.p.length l.p.place l.i = let a =
+    c.args in
     c.loop-i.invariant a.cs.now a.ns.now
     (rw c.class_at-c.ensures (starts a.m.now a.cs.now a.ns.now a.most (omega arith) c.requires.room_c c.requires.room_n)) in
-    long_n invariant-here
+    long_n invariant
 
 pub returns : goal.returns
 returns c =
-    let invariant-here : let s = c.args in let l = c.loop-i in ScanInvariant s.m.now s.cs.now s.ns.now l.cs l.ns s.most l.p.class l.p.length l.p.place l.i = let a = c.args in
+    let invariant : let s = c.args in let l = c.loop-i in ScanInvariant s.m.now s.cs.now s.ns.now l.cs l.ns s.most l.p.class l.p.length l.p.place l.i = let a =
+    c.args in
     c.loop-i.invariant a.cs.now a.ns.now
     (rw c.class_at-c.ensures (starts a.m.now a.cs.now a.ns.now a.most (omega arith) c.requires.room_c c.requires.room_n)) in
-    finished invariant-here c.loop-i-test.false
+    finished invariant c.loop-i-test.false

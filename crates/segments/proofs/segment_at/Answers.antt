@@ -15,20 +15,23 @@ loop-segment-init c = rw c.first_cursor-c.ensures
 
 pub returns-then-left-eq0 : goal.returns-then-left-eq0
 returns-then-left-eq0 c =
-    let step-here : Stepped c.args.measures.now c.loop-segment.c.at c.in-Segment.segment c.in-Segment.next = stepped _ _ _ _ (sym c.next_segment.ensures ∙ c.in-Segment.is) in
+    let step : Stepped c.args.measures.now c.loop-segment.c.at c.in-Segment.segment c.in-Segment.next =
+    stepped _ _ _ _ (sym c.next_segment.ensures ∙ c.in-Segment.is) in
     let l = c.loop-segment in
-    nth-is _ _ (omega arith) (_ ∷ _) (sym (here _ _ l.left step-here c.if-left-eq0.true) ∙ l.invariant)
+    nth-is _ _ (omega arith) (_ ∷ _) (sym (here _ _ l.left step c.if-left-eq0.true) ∙ l.invariant)
 
 pub loop-segment-smaller : goal.loop-segment-smaller
 loop-segment-smaller c =
-    let step-here : Stepped c.args.measures.now c.loop-segment.c.at c.in-Segment.segment c.in-Segment.next = stepped _ _ _ _ (sym c.next_segment.ensures ∙ c.in-Segment.is) in
-    omega (arith, one_less _ _ step-here)
+    let step : Stepped c.args.measures.now c.loop-segment.c.at c.in-Segment.segment c.in-Segment.next =
+    stepped _ _ _ _ (sym c.next_segment.ensures ∙ c.in-Segment.is) in
+    omega (arith, one_less _ _ step)
 
 pub loop-segment-preserved : goal.loop-segment-preserved
 loop-segment-preserved c =
-    let step-here : Stepped c.args.measures.now c.loop-segment.c.at c.in-Segment.segment c.in-Segment.next = stepped _ _ _ _ (sym c.next_segment.ensures ∙ c.in-Segment.is) in
+    let step : Stepped c.args.measures.now c.loop-segment.c.at c.in-Segment.segment c.in-Segment.next =
+    stepped _ _ _ _ (sym c.next_segment.ensures ∙ c.in-Segment.is) in
     let l = c.loop-segment in
-    sym (further _ _ l.left step-here c.if-left-eq0.false) ∙ l.invariant
+    sym (further _ _ l.left step c.if-left-eq0.false) ∙ l.invariant
 
 pub returns : goal.returns
 returns c =

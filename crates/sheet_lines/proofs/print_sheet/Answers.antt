@@ -1,6 +1,5 @@
 -- `sheet_lines::print_sheet` meets its contract.
 -- Assumes nothing.
-use borrow.Author.Rules.{rules}
 use Rattle.sheet_lines.proofs.print_sheet.Goals as goal
 
 pub returns : goal.returns

@@ -4,7 +4,6 @@ use mathlib.Core.Path.{sym}
 use native.Mathlib.Omega.{arith}
 use lib.Seq.{length-take-le}
 use Rattle.sheet_lines.proofs.Reading.{too_long, by-record, name-end, name-room, measures-within, sheet-printed}
-use borrow.Author.Rules.{rules}
 use Rattle.sheet_lines.proofs.put_sheet.Goals as goal
 
 pub returns-then-input-gt16384 : goal.returns-then-input-gt16384

@@ -5,7 +5,6 @@ use native.Mathlib.Omega.{arith}
 use Rattle.counts.proofs.TokenSums.{tokens-few}
 use Rattle.breakdown.proofs.Modes.{active-measures}
 use Rattle.stream_outputs.proofs.Pass.{roomy, no-1, no-2, no-4, no-0, sum, due-tokens, due-bytes}
-use borrow.Author.Rules.{rules}
 use Rattle.stream_outputs.proofs.first_no.Goals as goal
 
 pub returns-then-m-gt1048576 : goal.returns-then-m-gt1048576
@@ -32,33 +31,33 @@ returns-then-due-places c =
 
 pub overflow_add-l : goal.overflow_add-l
 overflow_add-l c =
-    let summed-here : sum c.due_of_measures-due.result.lengths ≤ 17825825 = let m = c.args.m.now in
+    let summed : sum c.due_of_measures-due.result.lengths ≤ 17825825 = let m = c.args.m.now in
     omega (arith, due-bytes m _ c.active_range.ensures c.due_of_measures-due.ensures, roomy m) in
-    omega (arith, summed-here)
+    omega (arith, summed)
 
 pub overflow_add-l-2 : goal.overflow_add-l-2
 overflow_add-l-2 c =
-    let summed-here : sum c.due_of_measures-due.result.lengths ≤ 17825825 = let m = c.args.m.now in
+    let summed : sum c.due_of_measures-due.result.lengths ≤ 17825825 = let m = c.args.m.now in
     omega (arith, due-bytes m _ c.active_range.ensures c.due_of_measures-due.ensures, roomy m) in
-    omega (arith, summed-here)
+    omega (arith, summed)
 
 pub overflow_add-l-3 : goal.overflow_add-l-3
 overflow_add-l-3 c =
-    let summed-here : sum c.due_of_measures-due.result.lengths ≤ 17825825 = let m = c.args.m.now in
+    let summed : sum c.due_of_measures-due.result.lengths ≤ 17825825 = let m = c.args.m.now in
     omega (arith, due-bytes m _ c.active_range.ensures c.due_of_measures-due.ensures, roomy m) in
-    omega (arith, summed-here)
+    omega (arith, summed)
 
 pub overflow_add-l-4 : goal.overflow_add-l-4
 overflow_add-l-4 c =
-    let summed-here : sum c.due_of_measures-due.result.lengths ≤ 17825825 = let m = c.args.m.now in
+    let summed : sum c.due_of_measures-due.result.lengths ≤ 17825825 = let m = c.args.m.now in
     omega (arith, due-bytes m _ c.active_range.ensures c.due_of_measures-due.ensures, roomy m) in
-    omega (arith, summed-here)
+    omega (arith, summed)
 
 pub overflow_add-l-5 : goal.overflow_add-l-5
 overflow_add-l-5 c =
-    let summed-here : sum c.due_of_measures-due.result.lengths ≤ 17825825 = let m = c.args.m.now in
+    let summed : sum c.due_of_measures-due.result.lengths ≤ 17825825 = let m = c.args.m.now in
     omega (arith, due-bytes m _ c.active_range.ensures c.due_of_measures-due.ensures, roomy m) in
-    omega (arith, summed-here)
+    omega (arith, summed)
 
 pub returns-then-l-room : goal.returns-then-l-room
 returns-then-l-room c =

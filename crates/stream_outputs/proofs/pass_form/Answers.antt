@@ -1,6 +1,5 @@
 -- `stream_outputs::pass_form` meets its contract.
 -- Assumes nothing.
-use borrow.Author.Rules.{rules}
 use Rattle.stream_outputs.proofs.Pass.{last-kind}
 use Rattle.stream_outputs.proofs.pass_form.Goals as goal
 

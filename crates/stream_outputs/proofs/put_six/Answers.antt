@@ -1,12 +1,11 @@
 -- `stream_outputs::put_six` meets its contract: the loop's steps are `Pass`'s.
 -- Assumes nothing.
-use Prim.Native.Nat.{◌-◌, ◌≤◌}
 use mathlib.Core.Path.{◌∙◌}
 use mathlib.Core.List.{[]}
 use native.Mathlib.Omega.{arith}
 use Rattle.number.proofs.Place.{wrote-length}
 use Rattle.text_buffer.proofs.Added.{added_out}
-use Rattle.stream_outputs.proofs.Pass.{Going, source, going-starts, next-room, next-between, going_on, last-room, going-ends}
+use Rattle.stream_outputs.proofs.Pass.{source, going-starts, next-room, next-between, going_on, last-room, going-ends}
 use Rattle.stream_outputs.proofs.put_six.Goals as goal
 
 pub loop-i-init : goal.loop-i-init
@@ -40,12 +39,11 @@ pub loop-i-smaller : goal.loop-i-smaller
 loop-i-smaller c = omega (arith, c.loop-i-test.true)
 
 pub loop-i-preserved : goal.loop-i-preserved
-loop-i-preserved c =
-    (
-      going_on c.requires.0 c.loop-i.invariant.0 c.loop-i-test.true c.pass_form.ensures
-          c.text_of_tokens-next.ensures _ c.between.ensures,
-      omega (arith, c.loop-i-test.true),
-    )
+loop-i-preserved c = (
+  going_on c.requires.0 c.loop-i.invariant.0 c.loop-i-test.true c.pass_form.ensures
+      c.text_of_tokens-next.ensures _ c.between.ensures,
+  omega (arith, c.loop-i-test.true),
+)
 
 pub put_buffer-requires : goal.put_buffer-requires
 put_buffer-requires c =

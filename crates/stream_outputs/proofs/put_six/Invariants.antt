@@ -1,12 +1,7 @@
 -- `stream_outputs::put_six` meets its contract: the loop's steps are `Pass`'s.
 -- Assumes nothing.
 use Prim.Native.Nat.{◌-◌, ◌≤◌}
-use mathlib.Core.Path.{◌∙◌}
-use mathlib.Core.List.{[]}
-use native.Mathlib.Omega.{arith}
-use Rattle.number.proofs.Place.{wrote-length}
-use Rattle.text_buffer.proofs.Added.{added_out}
-use Rattle.stream_outputs.proofs.Pass.{Going, source, going-starts, next-room, next-between, going_on, last-room, going-ends}
+use Rattle.stream_outputs.proofs.Pass.{Going}
 use Rattle.stream_outputs.proofs.put_six.Given as goal
 
 abbrev pub invariant-loop-i : goal.invariant-loop-i

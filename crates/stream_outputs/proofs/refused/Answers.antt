@@ -1,6 +1,5 @@
 -- `stream_outputs::refused` meets its contract.
 -- Assumes nothing.
-use borrow.Author.Rules.{rules}
 use Rattle.stream_outputs.proofs.refused.Goals as goal
 
 pub returns : goal.returns

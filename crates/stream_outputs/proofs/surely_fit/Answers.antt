@@ -2,7 +2,6 @@
 -- Assumes nothing.
 use mathlib.Core.Path.{sym}
 use mathlib.Core.Bool.{true≢false}
-use borrow.Author.Rules.{rules}
 use Rattle.stream_outputs.proofs.surely_fit.Goals as goal
 
 pub returns-then-n-places : goal.returns-then-n-places

@@ -13,7 +13,8 @@ use Rattle.breakdown.proofs.text.measures_text.Given as goal
 
 abbrev pub invariant-loop-i : goal.invariant-loop-i
 invariant-loop-i l =
-    (length l.cs ≡ 256) × (length l.ns ≡ 256) × Along l.m l.form l.run l.i × Text.Begun l.initial.buf l.initial.out (goes_on l.at 0) (text_of l.form (runs (classes l.m)))
+    (length l.cs ≡ 256) × (length l.ns ≡ 256) × Along l.m l.form l.run l.i
+    × Text.Begun l.initial.buf l.initial.out (goes_on l.at 0) (text_of l.form (runs (classes l.m)))
     (open_text l.form l.run (runs (classes (drop l.i l.m)))) l.buf l.out l.to
 
 abbrev pub decreases-loop-i : goal.decreases-loop-i

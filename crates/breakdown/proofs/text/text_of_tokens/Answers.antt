@@ -46,16 +46,18 @@ text_part-done-requires c =
 
 pub add_last-requires : goal.add_last-requires
 add_last-requires c =
-    let whole-here : let a = c.args in text_of a.form (paired a.cs.now a.ns.now) ≡ c.text_part-done.ensures.0.done ++ run_text c.text_part-done.result.run = let w = c.text_part-done.ensures in
+    let whole : let a = c.args in text_of a.form (paired a.cs.now a.ns.now) ≡ c.text_part-done.ensures.0.done ++ run_text c.text_part-done.result.run = let w =
+    c.text_part-done.ensures in
     tokens-all c.requires.0 c.if-cs-eq0.false c.args.form
     c.first_run-first.ensures w.0.done w.1.run w.0.whole in
     let e = c.text_part-done.ensures in
     let w = e.0.wrote in
-    (added-ready _ w c.requires.1, e.1.run.low, added-room _ w _ (rw whole-here at c.requires.2))
+    (added-ready _ w c.requires.1, e.1.run.low, added-room _ w _ (rw whole at c.requires.2))
 
 pub returns : goal.returns
 returns c =
-    let whole-here : let a = c.args in text_of a.form (paired a.cs.now a.ns.now) ≡ c.text_part-done.ensures.0.done ++ run_text c.text_part-done.result.run = let w = c.text_part-done.ensures in
+    let whole : let a = c.args in text_of a.form (paired a.cs.now a.ns.now) ≡ c.text_part-done.ensures.0.done ++ run_text c.text_part-done.result.run = let w =
+    c.text_part-done.ensures in
     tokens-all c.requires.0 c.if-cs-eq0.false c.args.form
     c.first_run-first.ensures w.0.done w.1.run w.0.whole in
-    rw whole-here (added _ c.text_part-done.ensures.0.wrote _ c.add_last.ensures)
+    rw whole (added _ c.text_part-done.ensures.0.wrote _ c.add_last.ensures)

@@ -16,43 +16,48 @@ shape_of-densities-then-rows-eq192 c = c.loop-at.invariant.long
 
 pub returns-then-rows-eq192 : goal.returns-then-rows-eq192
 returns-then-rows-eq192 c =
-    let row-here : RowAt c.args.text.now c.loop-at.at c.row_at-row.result = row-found _ _ _ c.row_at-row.ensures c.if-row-lt2.true in
-    too_many c.loop-at.invariant row-here c.if-rows-eq192.true c.refusal.ensures
+    let row : RowAt c.args.text.now c.loop-at.at c.row_at-row.result = row-found _ _ _ c.row_at-row.ensures c.if-row-lt2.true in
+    too_many c.loop-at.invariant row c.if-rows-eq192.true c.refusal.ensures
 
 pub loop-at-smaller-then-row-lt2 : goal.loop-at-smaller-then-row-lt2
 loop-at-smaller-then-row-lt2 c =
-    let row-here : RowAt c.args.text.now c.loop-at.at c.row_at-row.result = row-found _ _ _ c.row_at-row.ensures c.if-row-lt2.true in
-    omega (arith, row-here.there.within)
+    let row : RowAt c.args.text.now c.loop-at.at c.row_at-row.result = row-found _ _ _ c.row_at-row.ensures c.if-row-lt2.true in
+    omega (arith, row.there.within)
 
 pub loop-at-preserved-then-row-lt2 : goal.loop-at-preserved-then-row-lt2
 loop-at-preserved-then-row-lt2 c =
-    let row-here : RowAt c.args.text.now c.loop-at.at c.row_at-row.result = row-found _ _ _ c.row_at-row.ensures c.if-row-lt2.true in
-    next_row c.loop-at.invariant row-here c.if-rows-eq192.false
+    let row : RowAt c.args.text.now c.loop-at.at c.row_at-row.result = row-found _ _ _ c.row_at-row.ensures c.if-row-lt2.true in
+    next_row c.loop-at.invariant row c.if-rows-eq192.false
 
 pub overflow_add-measures : goal.overflow_add-measures
 overflow_add-measures c =
-    let comma-here : LineAt 1 c.args.text.now c.loop-at.at (44 ∷ []) = byte-found _ _ Measure (sym c.in-Measure.is ∙ c.end_at-ending.ensures) (λ z. omega (arith, z)) in
-    omega (arith, comma-here.within, c.loop-at.invariant.fewer)
+    let comma : LineAt 1 c.args.text.now c.loop-at.at (44 ∷ []) =
+    byte-found _ _ Measure (sym c.in-Measure.is ∙ c.end_at-ending.ensures) (λ z. omega (arith, z)) in
+    omega (arith, comma.within, c.loop-at.invariant.fewer)
 
 pub overflow_add-at-in-Measure : goal.overflow_add-at-in-Measure
 overflow_add-at-in-Measure c =
-    let comma-here : LineAt 1 c.args.text.now c.loop-at.at (44 ∷ []) = byte-found _ _ Measure (sym c.in-Measure.is ∙ c.end_at-ending.ensures) (λ z. omega (arith, z)) in
-    omega (arith, comma-here.within)
+    let comma : LineAt 1 c.args.text.now c.loop-at.at (44 ∷ []) =
+    byte-found _ _ Measure (sym c.in-Measure.is ∙ c.end_at-ending.ensures) (λ z. omega (arith, z)) in
+    omega (arith, comma.within)
 
 pub loop-at-smaller : goal.loop-at-smaller
 loop-at-smaller c =
-    let comma-here : LineAt 1 c.args.text.now c.loop-at.at (44 ∷ []) = byte-found _ _ Measure (sym c.in-Measure.is ∙ c.end_at-ending.ensures) (λ z. omega (arith, z)) in
-    omega (arith, comma-here.within)
+    let comma : LineAt 1 c.args.text.now c.loop-at.at (44 ∷ []) =
+    byte-found _ _ Measure (sym c.in-Measure.is ∙ c.end_at-ending.ensures) (λ z. omega (arith, z)) in
+    omega (arith, comma.within)
 
 pub loop-at-preserved : goal.loop-at-preserved
 loop-at-preserved c =
-    let comma-here : LineAt 1 c.args.text.now c.loop-at.at (44 ∷ []) = byte-found _ _ Measure (sym c.in-Measure.is ∙ c.end_at-ending.ensures) (λ z. omega (arith, z)) in
-    rw c.keep.ensures (next-measure c.loop-at.invariant comma-here)
+    let comma : LineAt 1 c.args.text.now c.loop-at.at (44 ∷ []) =
+    byte-found _ _ Measure (sym c.in-Measure.is ∙ c.end_at-ending.ensures) (λ z. omega (arith, z)) in
+    rw c.keep.ensures (next-measure c.loop-at.invariant comma)
 
 pub overflow_add-measures-in-Last : goal.overflow_add-measures-in-Last
 overflow_add-measures-in-Last c =
-    let semicolon-here : LineAt 1 c.args.text.now c.loop-at.at (59 ∷ []) = byte-found _ _ Last (sym c.in-Last.is ∙ c.end_at-ending.ensures) (λ z. omega (arith, z)) in
-    omega (arith, semicolon-here.within, c.loop-at.invariant.fewer)
+    let semicolon : LineAt 1 c.args.text.now c.loop-at.at (59 ∷ []) =
+    byte-found _ _ Last (sym c.in-Last.is ∙ c.end_at-ending.ensures) (λ z. omega (arith, z)) in
+    omega (arith, semicolon.within, c.loop-at.invariant.fewer)
 
 pub shape_of-densities-in-Last : goal.shape_of-densities-in-Last
 shape_of-densities-in-Last c =
@@ -60,8 +65,9 @@ shape_of-densities-in-Last c =
 
 pub returns-in-Last : goal.returns-in-Last
 returns-in-Last c =
-    let semicolon-here : LineAt 1 c.args.text.now c.loop-at.at (59 ∷ []) = byte-found _ _ Last (sym c.in-Last.is ∙ c.end_at-ending.ensures) (λ z. omega (arith, z)) in
-    let f = semicolon-here in
+    let semicolon : LineAt 1 c.args.text.now c.loop-at.at (59 ∷ []) =
+    byte-found _ _ Last (sym c.in-Last.is ∙ c.end_at-ending.ensures) (λ z. omega (arith, z)) in
+    let f = semicolon in
     let ends = last-ends f (sym c.in-Last.is ∙ c.end_at-ending.ensures) in
     rw c.keep-in-Last.ensures (done c.loop-at.invariant f ends c.accepted.ensures)
 

@@ -23,40 +23,48 @@ returns-in-Cut c = cut_off c.loop-tag.invariant (is_cut _ _ _ (sym c.in-Cut.is �
 
 pub slice_bounds-put_payload-count : goal.slice_bounds-put_payload-count
 slice_bounds-put_payload-count c =
-    let field_found-here : WholeAt c.args.bytes.now c.loop-tag.at c.in-Whole.tag c.in-Whole.start c.in-Whole.end = whole-at _ _ _ _ _ (sym c.in-Whole.is ∙ c.field_at-field.ensures) in
-    field_found-here.order
+    let field_found : WholeAt c.args.bytes.now c.loop-tag.at c.in-Whole.tag c.in-Whole.start c.in-Whole.end =
+    whole-at _ _ _ _ _ (sym c.in-Whole.is ∙ c.field_at-field.ensures) in
+    field_found.order
 
 pub slice_bounds-put_payload-start : goal.slice_bounds-put_payload-start
 slice_bounds-put_payload-start c =
-    let field_found-here : WholeAt c.args.bytes.now c.loop-tag.at c.in-Whole.tag c.in-Whole.start c.in-Whole.end = whole-at _ _ _ _ _ (sym c.in-Whole.is ∙ c.field_at-field.ensures) in
-    field_found-here.order
+    let field_found : WholeAt c.args.bytes.now c.loop-tag.at c.in-Whole.tag c.in-Whole.start c.in-Whole.end =
+    whole-at _ _ _ _ _ (sym c.in-Whole.is ∙ c.field_at-field.ensures) in
+    field_found.order
 
 pub slice_bounds-put_payload-end : goal.slice_bounds-put_payload-end
 slice_bounds-put_payload-end c =
-    let field_found-here : WholeAt c.args.bytes.now c.loop-tag.at c.in-Whole.tag c.in-Whole.start c.in-Whole.end = whole-at _ _ _ _ _ (sym c.in-Whole.is ∙ c.field_at-field.ensures) in
-    field_found-here.within
+    let field_found : WholeAt c.args.bytes.now c.loop-tag.at c.in-Whole.tag c.in-Whole.start c.in-Whole.end =
+    whole-at _ _ _ _ _ (sym c.in-Whole.is ∙ c.field_at-field.ensures) in
+    field_found.within
 
 pub put_payload-count-requires : goal.put_payload-count-requires
 put_payload-count-requires c =
-    let field_found-here : WholeAt c.args.bytes.now c.loop-tag.at c.in-Whole.tag c.in-Whole.start c.in-Whole.end = whole-at _ _ _ _ _ (sym c.in-Whole.is ∙ c.field_at-field.ensures) in
-    has_room c.loop-tag.invariant field_found-here c.if-tag-eq2.true
+    let field_found : WholeAt c.args.bytes.now c.loop-tag.at c.in-Whole.tag c.in-Whole.start c.in-Whole.end =
+    whole-at _ _ _ _ _ (sym c.in-Whole.is ∙ c.field_at-field.ensures) in
+    has_room c.loop-tag.invariant field_found c.if-tag-eq2.true
 
 pub loop-tag-smaller-then-tag-eq2 : goal.loop-tag-smaller-then-tag-eq2
 loop-tag-smaller-then-tag-eq2 c =
-    let field_found-here : WholeAt c.args.bytes.now c.loop-tag.at c.in-Whole.tag c.in-Whole.start c.in-Whole.end = whole-at _ _ _ _ _ (sym c.in-Whole.is ∙ c.field_at-field.ensures) in
-    omega (arith, field_found-here)
+    let field_found : WholeAt c.args.bytes.now c.loop-tag.at c.in-Whole.tag c.in-Whole.start c.in-Whole.end =
+    whole-at _ _ _ _ _ (sym c.in-Whole.is ∙ c.field_at-field.ensures) in
+    omega (arith, field_found)
 
 pub loop-tag-preserved-then-tag-eq2 : goal.loop-tag-preserved-then-tag-eq2
 loop-tag-preserved-then-tag-eq2 c =
-    let field_found-here : WholeAt c.args.bytes.now c.loop-tag.at c.in-Whole.tag c.in-Whole.start c.in-Whole.end = whole-at _ _ _ _ _ (sym c.in-Whole.is ∙ c.field_at-field.ensures) in
-    step c.loop-tag.invariant field_found-here c.if-tag-eq2.true c.put_payload-count.ensures
+    let field_found : WholeAt c.args.bytes.now c.loop-tag.at c.in-Whole.tag c.in-Whole.start c.in-Whole.end =
+    whole-at _ _ _ _ _ (sym c.in-Whole.is ∙ c.field_at-field.ensures) in
+    step c.loop-tag.invariant field_found c.if-tag-eq2.true c.put_payload-count.ensures
 
 pub loop-tag-smaller : goal.loop-tag-smaller
 loop-tag-smaller c =
-    let field_found-here : WholeAt c.args.bytes.now c.loop-tag.at c.in-Whole.tag c.in-Whole.start c.in-Whole.end = whole-at _ _ _ _ _ (sym c.in-Whole.is ∙ c.field_at-field.ensures) in
-    omega (arith, field_found-here)
+    let field_found : WholeAt c.args.bytes.now c.loop-tag.at c.in-Whole.tag c.in-Whole.start c.in-Whole.end =
+    whole-at _ _ _ _ _ (sym c.in-Whole.is ∙ c.field_at-field.ensures) in
+    omega (arith, field_found)
 
 pub loop-tag-preserved : goal.loop-tag-preserved
 loop-tag-preserved c =
-    let field_found-here : WholeAt c.args.bytes.now c.loop-tag.at c.in-Whole.tag c.in-Whole.start c.in-Whole.end = whole-at _ _ _ _ _ (sym c.in-Whole.is ∙ c.field_at-field.ensures) in
-    skip c.loop-tag.invariant field_found-here c.if-tag-eq2.false
+    let field_found : WholeAt c.args.bytes.now c.loop-tag.at c.in-Whole.tag c.in-Whole.start c.in-Whole.end =
+    whole-at _ _ _ _ _ (sym c.in-Whole.is ∙ c.field_at-field.ensures) in
+    skip c.loop-tag.invariant field_found c.if-tag-eq2.false

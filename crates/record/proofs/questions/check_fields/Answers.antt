@@ -24,45 +24,54 @@ returns-in-Cut c =
 
 pub slice_bounds-payload-count : goal.slice_bounds-payload-count
 slice_bounds-payload-count c =
-    let field_found-here : WholeAt c.args.bytes.now c.loop-no.at c.in-Whole.tag c.in-Whole.start c.in-Whole.end = whole-at _ _ _ _ _ (sym c.in-Whole.is ∙ c.field_at-field.ensures) in
-    field_found-here.order
+    let field_found : WholeAt c.args.bytes.now c.loop-no.at c.in-Whole.tag c.in-Whole.start c.in-Whole.end =
+    whole-at _ _ _ _ _ (sym c.in-Whole.is ∙ c.field_at-field.ensures) in
+    field_found.order
 
 pub slice_bounds-payload-start : goal.slice_bounds-payload-start
 slice_bounds-payload-start c =
-    let field_found-here : WholeAt c.args.bytes.now c.loop-no.at c.in-Whole.tag c.in-Whole.start c.in-Whole.end = whole-at _ _ _ _ _ (sym c.in-Whole.is ∙ c.field_at-field.ensures) in
-    field_found-here.order
+    let field_found : WholeAt c.args.bytes.now c.loop-no.at c.in-Whole.tag c.in-Whole.start c.in-Whole.end =
+    whole-at _ _ _ _ _ (sym c.in-Whole.is ∙ c.field_at-field.ensures) in
+    field_found.order
 
 pub slice_bounds-payload-end : goal.slice_bounds-payload-end
 slice_bounds-payload-end c =
-    let field_found-here : WholeAt c.args.bytes.now c.loop-no.at c.in-Whole.tag c.in-Whole.start c.in-Whole.end = whole-at _ _ _ _ _ (sym c.in-Whole.is ∙ c.field_at-field.ensures) in
-    field_found-here.within
+    let field_found : WholeAt c.args.bytes.now c.loop-no.at c.in-Whole.tag c.in-Whole.start c.in-Whole.end =
+    whole-at _ _ _ _ _ (sym c.in-Whole.is ∙ c.field_at-field.ensures) in
+    field_found.within
 
 pub returns-then-no-ne0 : goal.returns-then-no-ne0
 returns-then-no-ne0 c =
-    let field_found-here : WholeAt c.args.bytes.now c.loop-no.at c.in-Whole.tag c.in-Whole.start c.in-Whole.end = whole-at _ _ _ _ _ (sym c.in-Whole.is ∙ c.field_at-field.ensures) in
-    turned_down c.loop-no.invariant field_found-here c.field_no-no.ensures c.if-no-ne0.true c.refused_by-then-no-ne0.ensures
+    let field_found : WholeAt c.args.bytes.now c.loop-no.at c.in-Whole.tag c.in-Whole.start c.in-Whole.end =
+    whole-at _ _ _ _ _ (sym c.in-Whole.is ∙ c.field_at-field.ensures) in
+    turned_down c.loop-no.invariant field_found c.field_no-no.ensures c.if-no-ne0.true c.refused_by-then-no-ne0.ensures
 
 pub overflow_add-measures : goal.overflow_add-measures
 overflow_add-measures c =
-    let field_found-here : WholeAt c.args.bytes.now c.loop-no.at c.in-Whole.tag c.in-Whole.start c.in-Whole.end = whole-at _ _ _ _ _ (sym c.in-Whole.is ∙ c.field_at-field.ensures) in
-    omega (arith, c.loop-no.invariant.few, field_found-here)
+    let field_found : WholeAt c.args.bytes.now c.loop-no.at c.in-Whole.tag c.in-Whole.start c.in-Whole.end =
+    whole-at _ _ _ _ _ (sym c.in-Whole.is ∙ c.field_at-field.ensures) in
+    omega (arith, c.loop-no.invariant.few, field_found)
 
 pub loop-no-smaller-then-tag-eq1 : goal.loop-no-smaller-then-tag-eq1
 loop-no-smaller-then-tag-eq1 c =
-    let field_found-here : WholeAt c.args.bytes.now c.loop-no.at c.in-Whole.tag c.in-Whole.start c.in-Whole.end = whole-at _ _ _ _ _ (sym c.in-Whole.is ∙ c.field_at-field.ensures) in
-    omega (arith, field_found-here)
+    let field_found : WholeAt c.args.bytes.now c.loop-no.at c.in-Whole.tag c.in-Whole.start c.in-Whole.end =
+    whole-at _ _ _ _ _ (sym c.in-Whole.is ∙ c.field_at-field.ensures) in
+    omega (arith, field_found)
 
 pub loop-no-preserved-then-tag-eq1 : goal.loop-no-preserved-then-tag-eq1
 loop-no-preserved-then-tag-eq1 c =
-    let field_found-here : WholeAt c.args.bytes.now c.loop-no.at c.in-Whole.tag c.in-Whole.start c.in-Whole.end = whole-at _ _ _ _ _ (sym c.in-Whole.is ∙ c.field_at-field.ensures) in
-    a-name c.loop-no.invariant field_found-here c.field_no-no.ensures c.if-no-ne0.false c.if-tag-eq1.true
+    let field_found : WholeAt c.args.bytes.now c.loop-no.at c.in-Whole.tag c.in-Whole.start c.in-Whole.end =
+    whole-at _ _ _ _ _ (sym c.in-Whole.is ∙ c.field_at-field.ensures) in
+    a-name c.loop-no.invariant field_found c.field_no-no.ensures c.if-no-ne0.false c.if-tag-eq1.true
 
 pub loop-no-smaller : goal.loop-no-smaller
 loop-no-smaller c =
-    let field_found-here : WholeAt c.args.bytes.now c.loop-no.at c.in-Whole.tag c.in-Whole.start c.in-Whole.end = whole-at _ _ _ _ _ (sym c.in-Whole.is ∙ c.field_at-field.ensures) in
-    omega (arith, field_found-here)
+    let field_found : WholeAt c.args.bytes.now c.loop-no.at c.in-Whole.tag c.in-Whole.start c.in-Whole.end =
+    whole-at _ _ _ _ _ (sym c.in-Whole.is ∙ c.field_at-field.ensures) in
+    omega (arith, field_found)
 
 pub loop-no-preserved : goal.loop-no-preserved
 loop-no-preserved c =
-    let field_found-here : WholeAt c.args.bytes.now c.loop-no.at c.in-Whole.tag c.in-Whole.start c.in-Whole.end = whole-at _ _ _ _ _ (sym c.in-Whole.is ∙ c.field_at-field.ensures) in
-    some-densities c.loop-no.invariant field_found-here c.field_no-no.ensures c.if-no-ne0.false c.if-tag-eq1.false
+    let field_found : WholeAt c.args.bytes.now c.loop-no.at c.in-Whole.tag c.in-Whole.start c.in-Whole.end =
+    whole-at _ _ _ _ _ (sym c.in-Whole.is ∙ c.field_at-field.ensures) in
+    some-densities c.loop-no.invariant field_found c.field_no-no.ensures c.if-no-ne0.false c.if-tag-eq1.false

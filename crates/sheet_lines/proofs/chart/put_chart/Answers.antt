@@ -3,7 +3,6 @@
 use mathlib.Core.Path.{sym}
 use lib.Seq.{length-take-le}
 use Rattle.sheet_lines.proofs.Charted.{by-pass, by_total, six, total-within, lines-room, printed}
-use borrow.Author.Rules.{rules}
 use Rattle.sheet_lines.proofs.chart.put_chart.Goals as goal
 
 pub returns-then-outputs-ne0 : goal.returns-then-outputs-ne0

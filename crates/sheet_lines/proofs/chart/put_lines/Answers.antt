@@ -3,7 +3,6 @@
 use native.Mathlib.Omega.{arith}
 use Rattle.number.proofs.Place.{room-first, room_next, wrote}
 use Rattle.sheet_lines.proofs.Numbers.{started}
-use borrow.Author.Rules.{rules}
 use Rattle.sheet_lines.proofs.chart.put_lines.Goals as goal
 
 pub put_line-a-requires : goal.put_line-a-requires

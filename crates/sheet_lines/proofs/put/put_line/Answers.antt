@@ -1,7 +1,6 @@
 -- `sheet_lines::put::put_line` meets its contract.
 -- Assumes nothing.
 use Rattle.number.proofs.Place.{room-first, room_next, wrote}
-use borrow.Author.Rules.{rules}
 use Rattle.sheet_lines.proofs.put.put_line.Goals as goal
 
 pub put_bytes-end-requires : goal.put_bytes-end-requires

@@ -7,7 +7,6 @@ use Rattle.rules.specs.Bytes.{bytes}
 use Rattle.number.proofs.Padded.{padded-none}
 use Rattle.number.proofs.Place.{room-first, room_next, wrote}
 use Rattle.sheet_lines.proofs.Numbers.{refusal-room, started}
-use borrow.Author.Rules.{rules}
 use Rattle.sheet_lines.proofs.put.put_refusal.Goals as goal
 
 pub put_u64-b-requires : goal.put_u64-b-requires

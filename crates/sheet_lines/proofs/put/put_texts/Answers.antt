@@ -1,10 +1,7 @@
 -- `sheet_lines::put::put_texts` meets its contract.
 -- Assumes nothing.
-use Prim.Native.Nat.{◌-◌}
 use native.Mathlib.Omega.{arith}
-use lib.ListN.{length}
-use Rattle.sheet_lines.proofs.Cutting.{Cutting, cut-starts, cut-long, cut-done, end-within, cut-room, cut_step}
-use borrow.Author.Rules.{rules}
+use Rattle.sheet_lines.proofs.Cutting.{cut-starts, cut-long, cut-done, end-within, cut-room, cut_step}
 use Rattle.sheet_lines.proofs.put.put_texts.Goals as goal
 
 pub loop-i-init : goal.loop-i-init

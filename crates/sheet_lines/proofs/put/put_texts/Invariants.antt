@@ -1,10 +1,8 @@
 -- `sheet_lines::put::put_texts` meets its contract.
 -- Assumes nothing.
 use Prim.Native.Nat.{◌-◌}
-use native.Mathlib.Omega.{arith}
 use lib.ListN.{length}
-use Rattle.sheet_lines.proofs.Cutting.{Cutting, cut-starts, cut-long, cut-done, end-within, cut-room, cut_step}
-use borrow.Author.Rules.{rules}
+use Rattle.sheet_lines.proofs.Cutting.{Cutting}
 use Rattle.sheet_lines.proofs.put.put_texts.Given as goal
 
 abbrev pub invariant-loop-i : goal.invariant-loop-i

@@ -16,7 +16,7 @@ add_ended-a-requires c = (omega (arith, c.requires.0), c.requires.1, omega (arit
 
 pub add_word-b-requires : goal.add_word-b-requires
 add_word-b-requires c =
-    let fits-here : c.add_ended-a.result + 4 ≤ length c.add_ended-a.new.buf = let w = c.with_break.result in
+    let fits : c.add_ended-a.result + 4 ≤ length c.add_ended-a.new.buf = let w = c.with_break.result in
     let g = c.add_ended-a.ensures in
     omega (
       arith,
@@ -26,7 +26,7 @@ add_word-b-requires c =
       length-append (run_text w) (32 ∷ []),
       run_short w.class w.length w.starred (omega arith),
     ) in
-    (fits-here, c.sign_word.ensures.short)
+    (fits, c.sign_word.ensures.short)
 
 pub returns-then-limit-gap : goal.returns-then-limit-gap
 returns-then-limit-gap c =
@@ -41,7 +41,7 @@ returns-then-limit-gap c =
 
 pub returns-else-limit-gap : goal.returns-else-limit-gap
 returns-else-limit-gap c =
-    let fits-here : c.add_ended-a.result + 4 ≤ length c.add_ended-a.new.buf = let w = c.with_break.result in
+    let fits : c.add_ended-a.result + 4 ≤ length c.add_ended-a.new.buf = let w = c.with_break.result in
     let g = c.add_ended-a.ensures in
     omega (
       arith,
@@ -55,4 +55,4 @@ returns-else-limit-gap c =
     let w = c.with_break in
     rw (w.ensures.shows, group-short a.limit w.result.class w.result.length w.result.starred a.gap w.ensures.run c.if-limit-gap.false)
     (rw append-nil at (grown _ [] c.add_ended-a.ensures
-    (dropped _ (omega (arith, fits-here)) c.add_word-b.ensures)))
+    (dropped _ (omega (arith, fits)) c.add_word-b.ensures)))

@@ -34,18 +34,22 @@ pub add_word-c-requires : goal.add_word-c-requires
 add_word-c-requires c =
     let a = worded (before-word (goal.at.add_word-c-requires c).After-class_word) c.add_word-a.ensures in
     let b = c.add_u64-b.ensures in
-    let long = at_most 20 c.args.n (omega arith) (omega arith) in
-    (omega (arith, c.requires.0, a.next, a.long, side-short 40 c.args.class, b.next, b.long), (behind-word (goal.at.add_word-c-requires c).After-class_word-2).short)
+    let long = at_most 20 c.args.n (omega arith) (omega arith) in (
+      omega (arith, c.requires.0, a.next, a.long, side-short 40 c.args.class, b.next, b.long),
+      (behind-word (goal.at.add_word-c-requires c).After-class_word-2).short,
+    )
 
 pub returns-then-class-n : goal.returns-then-class-n
 returns-then-class-n c =
-    let whole-here : let a = c.args in Grown a.buf.now c.add_word-c.new.buf a.k (side 40 a.class ++ (digits a.n ++ (side 41 a.class ++ (32 ∷ [])))) c.add_word-c.result = let d = grown _ _ c.add_u64-b.ensures (worded (behind-word (goal.at.returns-then-class-n c).After-class_word-2) c.add_word-c.ensures) in
+    let whole : let a = c.args in Grown a.buf.now c.add_word-c.new.buf a.k (side 40 a.class ++ (digits a.n ++ (side 41 a.class ++ (32 ∷ [])))) c.add_word-c.result = let d =
+    grown _ _ c.add_u64-b.ensures (worded (behind-word (goal.at.returns-then-class-n c).After-class_word-2) c.add_word-c.ensures) in
     grown _ _ (worded (before-word (goal.at.returns-then-class-n c).After-class_word) c.add_word-a.ensures) d in
-    rw (token-none c.args.class c.args.n c.if-class-n.true) (dropped _ (omega (arith, c.requires.0)) whole-here)
+    rw (token-none c.args.class c.args.n c.if-class-n.true) (dropped _ (omega (arith, c.requires.0)) whole)
 
 pub returns-else-class-n : goal.returns-else-class-n
 returns-else-class-n c =
-    let whole-here : let a = c.args in Grown a.buf.now c.add_word-c.new.buf a.k (side 40 a.class ++ (digits a.n ++ (side 41 a.class ++ (32 ∷ [])))) c.add_word-c.result = let d = grown _ _ c.add_u64-b.ensures (worded (behind-word (goal.at.returns-else-class-n c).After-class_word-2) c.add_word-c.ensures) in
+    let whole : let a = c.args in Grown a.buf.now c.add_word-c.new.buf a.k (side 40 a.class ++ (digits a.n ++ (side 41 a.class ++ (32 ∷ [])))) c.add_word-c.result = let d =
+    grown _ _ c.add_u64-b.ensures (worded (behind-word (goal.at.returns-else-class-n c).After-class_word-2) c.add_word-c.ensures) in
     grown _ _ (worded (before-word (goal.at.returns-else-class-n c).After-class_word) c.add_word-a.ensures) d in
     let a = c.args in
-    rw (token-text a.class a.n c.if-class-n.false) whole-here
+    rw (token-text a.class a.n c.if-class-n.false) whole

@@ -14,27 +14,27 @@ use Rattle.sn_text.proofs.sn.next_run.Goals.{else-broken, then-broken}
 
 pub bounds-cs-j : goal.bounds-cs-j
 bounds-cs-j c =
-    let place-here : c.if-broken.j < length c.args.cs.now = let p = c.requires in
+    let place : c.if-broken.j < length c.args.cs.now = let p = c.requires in
     elim c.if-broken.branch [ then-broken w ↦ omega (arith, w.j-is, run_inside p w.if-broken.true) | else-broken w ↦ omega (arith, w.j-is, p.inside) ] in
-    place-here
+    place
 
 pub offset_bounds-ns-j : goal.offset_bounds-ns-j
 offset_bounds-ns-j c =
-    let place-here : c.if-broken.j < length c.args.cs.now = let p = c.requires in
+    let place : c.if-broken.j < length c.args.cs.now = let p = c.requires in
     elim c.if-broken.branch [ then-broken w ↦ omega (arith, w.j-is, run_inside p w.if-broken.true) | else-broken w ↦ omega (arith, w.j-is, p.inside) ] in
-    omega (arith, place-here, c.requires.long)
+    omega (arith, place, c.requires.long)
 
 pub bounds-ns-j : goal.bounds-ns-j
 bounds-ns-j c =
-    let place-here : c.if-broken.j < length c.args.cs.now = let p = c.requires in
+    let place : c.if-broken.j < length c.args.cs.now = let p = c.requires in
     elim c.if-broken.branch [ then-broken w ↦ omega (arith, w.j-is, run_inside p w.if-broken.true) | else-broken w ↦ omega (arith, w.j-is, p.inside) ] in
-    omega (arith, place-here, c.requires.long)
+    omega (arith, place, c.requires.long)
 
 pub overflow_add-result : goal.overflow_add-result
 overflow_add-result c =
-    let place-here : c.if-broken.j < length c.args.cs.now = let p = c.requires in
+    let place : c.if-broken.j < length c.args.cs.now = let p = c.requires in
     elim c.if-broken.branch [ then-broken w ↦ omega (arith, w.j-is, run_inside p w.if-broken.true) | else-broken w ↦ omega (arith, w.j-is, p.inside) ] in
-    omega (arith, place-here)
+    omega (arith, place)
 
 pub returns : goal.returns
 returns c =

@@ -19,21 +19,24 @@ add_word-a-requires c = (omega (arith, c.requires.0), (mark-word (goal.at.add_wo
 
 pub add_u64-b-requires : goal.add_u64-b-requires
 add_u64-b-requires c =
-    let front-here : Grown c.args.buf.now c.add_word-a.new.buf c.args.k (mark c.args.run.class) c.add_word-a.result = worded (mark-word (goal.at.add_u64-b-requires c).After-class_word) c.add_word-a.ensures in
-    let a = front-here in
+    let front : Grown c.args.buf.now c.add_word-a.new.buf c.args.k (mark c.args.run.class) c.add_word-a.result =
+    worded (mark-word (goal.at.add_u64-b-requires c).After-class_word) c.add_word-a.ensures in
+    let a = front in
     (omega (arith, c.requires.0, a.next, a.long, mark-short c.args.run.class), omega arith, c.requires.1.number)
 
 pub add_word-requires : goal.add_word-requires
 add_word-requires c =
-    let front-here : Grown c.args.buf.now c.add_word-a.new.buf c.args.k (mark c.args.run.class) c.add_word-a.result = worded (mark-word (goal.at.add_word-requires c).After-class_word) c.add_word-a.ensures in
-    let a = front-here in
+    let front : Grown c.args.buf.now c.add_word-a.new.buf c.args.k (mark c.args.run.class) c.add_word-a.result =
+    worded (mark-word (goal.at.add_word-requires c).After-class_word) c.add_word-a.ensures in
+    let a = front in
     let b = c.add_u64-b.ensures in
     let long = at_most 20 c.args.run.length (omega arith) (omega arith) in
     (omega (arith, c.requires.0, a.next, a.long, mark-short c.args.run.class, b.next, b.long), c.end_word.ensures.short)
 
 pub returns : goal.returns
 returns c =
-    let front-here : Grown c.args.buf.now c.add_word-a.new.buf c.args.k (mark c.args.run.class) c.add_word-a.result = worded (mark-word (goal.at.returns c).After-class_word) c.add_word-a.ensures in
+    let front : Grown c.args.buf.now c.add_word-a.new.buf c.args.k (mark c.args.run.class) c.add_word-a.result =
+    worded (mark-word (goal.at.returns c).After-class_word) c.add_word-a.ensures in
     let r = c.args.run in
     let e = worded c.end_word.ensures c.add_word.ensures in
-    rw (ended-run r.class r.length r.starred) at (grown _ _ front-here (grown _ _ c.add_u64-b.ensures e))
+    rw (ended-run r.class r.length r.starred) at (grown _ _ front (grown _ _ c.add_u64-b.ensures e))

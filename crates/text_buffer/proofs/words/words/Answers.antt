@@ -43,15 +43,16 @@ set_row-requires-5 c =
 
 pub word_before-requires-3 : goal.word_before-requires-3
 word_before-requires-3 c =
-    let bar-here : Word (bytes "| ") c.word_before-bar.result = word_on (bytes "|") (space (goal.at.word_before-requires-3 c).After-word_before-space) c.word_before-bar.ensures in
-    omega (arith, word_count bar-here)
+    let bar : Word (bytes "| ") c.word_before-bar.result =
+    word_on (bytes "|") (space (goal.at.word_before-requires-3 c).After-word_before-space) c.word_before-bar.ensures in
+    omega (arith, word_count bar)
 
 pub returns : goal.returns
 returns c =
-    let bar-here : Word (bytes "| ") c.word_before-bar.result = word_on (bytes "|") (space (goal.at.returns c).After-word_before-space) c.word_before-bar.ensures in
+    let bar : Word (bytes "| ") c.word_before-bar.result = word_on (bytes "|") (space (goal.at.returns c).After-word_before-space) c.word_before-bar.ensures in
     table-right (space (goal.at.returns c).After-word_before-space) (star (goal.at.returns c).After-word_before-star) (word_on (bytes "-") (space (goal.at.returns c).After-word_before-space) c.word_before-dash.ensures)
-    (word_on (bytes "/") (space (goal.at.returns c).After-word_before-space) c.word_before-slash.ensures) bar-here
+    (word_on (bytes "/") (space (goal.at.returns c).After-word_before-space) c.word_before-slash.ensures) bar
     c.word_before.ensures c.word_before-2.ensures
-    (word_on (bytes " ") bar-here c.word_before-3.ensures) c.set_numbers.ensures c.set_row.ensures
+    (word_on (bytes " ") bar c.word_before-3.ensures) c.set_numbers.ensures c.set_row.ensures
     c.set_row-2.ensures c.set_row-3.ensures c.set_row-4.ensures c.set_row-5.ensures c.set_signs.ensures
     c.set_signs-2.ensures
