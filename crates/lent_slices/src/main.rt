@@ -95,7 +95,7 @@ fn print_symbols(rt: &impl Print) -> io::Result<()> {
     )
 }
 
-fn print_texts(rt: &impl Print, m: &[u32]) -> io::Result<()> {
+fn print_sn_texts(rt: &impl Print, m: &[u32]) -> io::Result<()> {
     print_call(
         rt,
         b"generate_breakdown detailed",
@@ -113,7 +113,10 @@ fn print_texts(rt: &impl Print, m: &[u32]) -> io::Result<()> {
         b"generate_breakdown simplified",
         Call::Sn(BreakdownMode::Simplified),
         m,
-    )?;
+    )
+}
+
+fn print_standard_texts(rt: &impl Print, m: &[u32]) -> io::Result<()> {
     print_call(
         rt,
         b"stream_breakdown detailed",
@@ -137,7 +140,12 @@ fn print_texts(rt: &impl Print, m: &[u32]) -> io::Result<()> {
         b"stream_breakdown total",
         Call::Standard(StreamBreakdownLevel::Total),
         m,
-    )?;
+    )
+}
+
+fn print_texts(rt: &impl Print, m: &[u32]) -> io::Result<()> {
+    print_sn_texts(rt, m)?;
+    print_standard_texts(rt, m)?;
     print_call(rt, b"generate_breakdowns", Call::SnTexts, m)?;
     print_call(rt, b"stream_breakdowns", Call::StandardTexts, m)
 }

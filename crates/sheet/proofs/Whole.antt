@@ -1,7 +1,7 @@
 -- From what was read and what was written to what stood in the input. Nothing here speaks of code.
 -- Assumes nothing.
-use Rattle.std.proofs.Common.{◌≡◌, ℕ, ◌<◌, ◌≤◌, List, [], ◌++◌, length, take, drop, replicate, refl, sym, ap, ◌∙◌, subst, arith, inl, inr, append-nil, length-append}
-use Rattle.std.proofs.lemmas.List.{take_at, length-take-le}
+use Rattle.std.proofs.Common.{◌≡◌, ℕ, ◌<◌, ◌≤◌, List, [], ◌++◌, length, take, drop, replicate, refl, sym, ap, ◌∙◌, subst, arith, inl, inr}
+use Rattle.std.proofs.lemmas.List.{take_at, length-take-le, append-nil, length-append}
 use Rattle.std.proofs.lemmas.Bool.{cases_lt}
 use Rattle.std.specs.Prelude.{Option, None, Some, IfSome}
 use Rattle.std.specs.Io.KnownBytes.{Consumes, IsAtEnd, Appends}
@@ -18,9 +18,9 @@ printed {input} {r} p =
 -- an input of which 16,385 bytes were read, or all there are, has the sheet of what was read
 same_sheet : (read ys : List ℕ) → (length read < 16385 → ys ≡ []) → sheet_bytes read ≡ sheet_bytes (read ++ ys)
 same_sheet read ys ended = elim (cases_lt (length read) 16385) [
-      inl l ↦ ap sheet_bytes (sym (append-nil read) ∙ ap (λ zs. read ++ zs) (sym (ended l)))
-    | inr l ↦ too_long read (omega arith) ∙ sym (too_long (read ++ ys) (omega (arith, length-append read ys)))
-    ]
+  | inl l ↦ ap sheet_bytes (sym (append-nil read) ∙ ap (λ zs. read ++ zs) (sym (ended l)))
+  | inr l ↦ too_long read (omega arith) ∙ sym (too_long (read ++ ys) (omega (arith, length-append read ys)))
+]
 
 -- `read` is what a reader gave, up to its end or 16,385 bytes, and a writer took the sheet of it
 whole : (old new a b : Option (List ℕ)) (read : List ℕ) → Consumes old new read → (length read < 16385 → IsAtEnd new)

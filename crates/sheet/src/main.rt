@@ -11,18 +11,16 @@ use std::io;
 use std::io::{Read, Write};
 
 // The sheet of all that the input has left. One byte more than a record may have is read, so that a longer input is seen.
-fn copy_sheet<R: Read, W: Write>(input: &mut R, output: &mut W) -> io::Result<()>
+fn write_sheet<R: Read, W: Write>(input: &mut R, output: &mut W) -> io::Result<()>
     ensures { OnOk result (IfSome (R.remaining input.old) (λ given.
         Appends (W.contents output.old) (W.contents output.new) (sheet_bytes given))) }
 {
     let mut space = [0u8; 16385];
     let count = read_full(input, &mut space)?;
     let sheet = print_sheet(&space[..count]);
-    let bytes = sheet.bytes;
-    let length = sheet.length;
-    output.write_all(&bytes[..length])
+    output.write_all(&sheet.bytes[..sheet.length])
 }
 
 fn main(rt: HostRuntime) -> io::Result<()> {
-    copy_sheet(&mut rt.stdin(), &mut rt.stdout())
+    write_sheet(&mut rt.stdin(), &mut rt.stdout())
 }

@@ -8,9 +8,7 @@ use std::io;
 
 fn print_one(rt: &impl Print, record: &[u8]) -> io::Result<()> {
     let sheet = print_sheet(record);
-    let bytes = sheet.bytes;
-    let length = sheet.length;
-    rt.write_all(&bytes[..length])
+    rt.write_all(&sheet.bytes[..sheet.length])
 }
 
 fn print_all(rt: &impl Print, list: &[u8]) -> io::Result<()> {
