@@ -776,8 +776,6 @@ static void test_sheet(void)
     static const uint8_t led_in[] = {1, 0, 1, 'B', 2, 0, 5, 15, 16, 0, 0, 0};
     static const uint8_t quiet[] = {1, 0, 1, 'C', 2, 0, 2, 15, 0};
     static const uint8_t long_input[16385];
-    char too_long[16];
-    snprintf(too_long, sizeof too_long, "refused %d\n", PV_INPUT_TOO_LONG);
     chart_name = "a record";
     check_sheet(bytes, sizeof bytes,
         "A\n3 2 0 0 3 4 0 0\n2 ~2~ (3) 1\n2 ~2~ - 1\n2 ~5~* 1\n2-2 (3) 1\n2-2-1\n5*-1\n5 Total\n");
@@ -786,7 +784,7 @@ static void test_sheet(void)
     check_sheet(bytes, 2, "refused 8\n");
     check_sheet(bytes, 3, "refused 17\n");
     check_sheet(bytes, 0, "refused 10\n");
-    check_sheet(long_input, sizeof long_input, too_long);
+    check_sheet(long_input, sizeof long_input, "refused 13\n");
 }
 
 /* ---- the domain's edge */
