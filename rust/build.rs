@@ -22,7 +22,7 @@ fn main() {
 fn make_library(root: &Path) -> Result<(), String> {
     let place = root.canonicalize().unwrap_or_default();
     let place = place.display();
-    match Command::new("c/library.sh").current_dir(root).output() {
+    match Command::new(root.join("c/library.sh")).output() {
         Ok(said) if said.status.success() => Ok(()),
         Ok(said) => Err(format!(
             "{}{}`c/library.sh` failed in {place}.",

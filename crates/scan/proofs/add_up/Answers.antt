@@ -1,7 +1,5 @@
 -- `scan::add_up` meets its contract: the loop's invariant and its steps are `Adding`'s.
 -- Assumes nothing.
-use Prim.Native.Nat.{◌≤◌}
-use lib.ListN.{get_or}
 use Rattle.scan.proofs.Adding.{starts, small, low, added, finished}
 use native.Mathlib.Omega.{arith}
 use Rattle.scan.proofs.add_up.Goals as goal
@@ -10,46 +8,22 @@ pub loop-i-init : goal.loop-i-init
 loop-i-init c = starts c.requires
 
 pub add_if-a-requires : goal.add_if-a-requires
-add_if-a-requires c =
-    let lows : let l = c.loop-i in ((l.a ≤ 1048576) × (l.b ≤ 1048576) × (l.c ≤ 1048576) × (l.d ≤ 1048576) × (l.e ≤ 1048576) × (l.f ≤ 1048576))
-    × (get_or c.args.ns.now l.i 0 ≤ 1048576) =
-    (low c.loop-i.invariant, small c.loop-i.invariant c.loop-i-test.true) in
-    let h = lows in omega arith
+add_if-a-requires c = omega (arith, low c.loop-i.invariant, small c.loop-i.invariant c.loop-i-test.true)
 
 pub add_if-b-requires : goal.add_if-b-requires
-add_if-b-requires c =
-    let lows : let l = c.loop-i in ((l.a ≤ 1048576) × (l.b ≤ 1048576) × (l.c ≤ 1048576) × (l.d ≤ 1048576) × (l.e ≤ 1048576) × (l.f ≤ 1048576))
-    × (get_or c.args.ns.now l.i 0 ≤ 1048576) =
-    (low c.loop-i.invariant, small c.loop-i.invariant c.loop-i-test.true) in
-    let h = lows in omega arith
+add_if-b-requires c = omega (arith, low c.loop-i.invariant, small c.loop-i.invariant c.loop-i-test.true)
 
 pub add_if-c-requires : goal.add_if-c-requires
-add_if-c-requires c =
-    let lows : let l = c.loop-i in ((l.a ≤ 1048576) × (l.b ≤ 1048576) × (l.c ≤ 1048576) × (l.d ≤ 1048576) × (l.e ≤ 1048576) × (l.f ≤ 1048576))
-    × (get_or c.args.ns.now l.i 0 ≤ 1048576) =
-    (low c.loop-i.invariant, small c.loop-i.invariant c.loop-i-test.true) in
-    let h = lows in omega arith
+add_if-c-requires c = omega (arith, low c.loop-i.invariant, small c.loop-i.invariant c.loop-i-test.true)
 
 pub add_if-d-requires : goal.add_if-d-requires
-add_if-d-requires c =
-    let lows : let l = c.loop-i in ((l.a ≤ 1048576) × (l.b ≤ 1048576) × (l.c ≤ 1048576) × (l.d ≤ 1048576) × (l.e ≤ 1048576) × (l.f ≤ 1048576))
-    × (get_or c.args.ns.now l.i 0 ≤ 1048576) =
-    (low c.loop-i.invariant, small c.loop-i.invariant c.loop-i-test.true) in
-    let h = lows in omega arith
+add_if-d-requires c = omega (arith, low c.loop-i.invariant, small c.loop-i.invariant c.loop-i-test.true)
 
 pub add_if-e-requires : goal.add_if-e-requires
-add_if-e-requires c =
-    let lows : let l = c.loop-i in ((l.a ≤ 1048576) × (l.b ≤ 1048576) × (l.c ≤ 1048576) × (l.d ≤ 1048576) × (l.e ≤ 1048576) × (l.f ≤ 1048576))
-    × (get_or c.args.ns.now l.i 0 ≤ 1048576) =
-    (low c.loop-i.invariant, small c.loop-i.invariant c.loop-i-test.true) in
-    let h = lows in omega arith
+add_if-e-requires c = omega (arith, low c.loop-i.invariant, small c.loop-i.invariant c.loop-i-test.true)
 
 pub add_if-f-requires : goal.add_if-f-requires
-add_if-f-requires c =
-    let lows : let l = c.loop-i in ((l.a ≤ 1048576) × (l.b ≤ 1048576) × (l.c ≤ 1048576) × (l.d ≤ 1048576) × (l.e ≤ 1048576) × (l.f ≤ 1048576))
-    × (get_or c.args.ns.now l.i 0 ≤ 1048576) =
-    (low c.loop-i.invariant, small c.loop-i.invariant c.loop-i-test.true) in
-    let h = lows in omega (arith, c.wide.ensures.low)
+add_if-f-requires c = omega (arith, low c.loop-i.invariant, small c.loop-i.invariant c.loop-i-test.true, c.wide.ensures.low)
 
 pub loop-i-preserved : goal.loop-i-preserved
 loop-i-preserved c =

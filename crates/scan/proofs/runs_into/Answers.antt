@@ -1,15 +1,20 @@
--- `scan::runs_into` meets its contract: the loop's invariant and its steps are `ScanInvariant`'s. A chain of `.before` leads from a
--- place of the code to an earlier one.
+-- `scan::runs_into` meets its contract: the loop's invariant and its steps are `ScanInvariant`'s.
 -- Assumes nothing.
-use Prim.Native.Nat.{ℕ, ◌+◌, ◌-◌, ◌≤◌}
+use Prim.Native.Nat.{ℕ, ◌+◌, ◌-◌, ◌≤◌, ◌<◌}
 use mathlib.Core.Path.{◌≡◌}
 use mathlib.Core.List.{List}
 use native.Mathlib.Omega.{arith}
-use lib.ListN.{length, set}
-use Rattle.scan.specs.Scan.{ScanInvariant, Steps}
+use lib.ListN.{length, set, get_or}
+use Rattle.rules.specs.Chart.{class_of}
+use Rattle.scan.specs.Scan.{ScanAsked, ScanInvariant, Steps}
 use Rattle.scan.proofs.ScanInvariant.{empty, starts, room, skipped, places, long_c, long_n, stopped, finished}
 use Rattle.scan.proofs.runs_into.Goals as goal
 use Rattle.scan.proofs.runs_into.Goals.{After-run_on-j}
+
+-- where the loop begins: k is the class of the first measure
+entry : (m cs ns : List ℕ) (most : ℕ) {k : ℕ} → 0 < length m → ScanAsked m cs ns most → k ≡ class_of (get_or m 0 0)
+    → ScanInvariant m cs ns (set cs 0 k) (set ns 0 1) most k 1 0 1
+entry m cs ns most some p e = rw e (starts m cs ns most some p.room_c p.room_n)
 
 -- over measures of the pending class
 on : (c : After-run_on-j) (old new : List ℕ) →
@@ -29,10 +34,7 @@ ready : (c : After-run_on-j) (count : ℕ) →
     → count ≤ 16
     → Steps s.m.now c.run_on-j.result count l.cs (set l.ns l.p.place n) (record { class = l.p.class; length = n; place = l.p.place })
 ready c count h b =
-    let invariant : let s = c.args in let l = c.loop-i in ScanInvariant s.m.now s.cs.now s.ns.now l.cs l.ns s.most l.p.class l.p.length l.p.place l.i = let a =
-    c.args in
-    c.loop-i.invariant a.cs.now a.ns.now
-    (rw c.class_at-c.ensures (starts a.m.now a.cs.now a.ns.now a.most (omega arith) c.requires.room_c c.requires.room_n)) in
+    let invariant = c.loop-i.invariant _ _ (entry _ _ _ _ (omega arith) c.requires c.class_at-c.ensures) in
     record {
       few = c.requires.few;
       within = h;
@@ -59,50 +61,32 @@ loop-i-init c = λ old new g. g
 
 pub overflow_cast-i : goal.overflow_cast-i
 overflow_cast-i c =
-    let invariant : let s = c.args in let l = c.loop-i in ScanInvariant s.m.now s.cs.now s.ns.now l.cs l.ns s.most l.p.class l.p.length l.p.place l.i = let a =
-    c.args in
-    c.loop-i.invariant a.cs.now a.ns.now
-    (rw c.class_at-c.ensures (starts a.m.now a.cs.now a.ns.now a.most (omega arith) c.requires.room_c c.requires.room_n)) in
-    let g = invariant in omega (arith, g.sum)
+    let invariant = c.loop-i.invariant _ _ (entry _ _ _ _ (omega arith) c.requires c.class_at-c.ensures) in
+    omega (arith, invariant.sum)
 
 pub overflow_sub-i : goal.overflow_sub-i
 overflow_sub-i c =
-    let invariant : let s = c.args in let l = c.loop-i in ScanInvariant s.m.now s.cs.now s.ns.now l.cs l.ns s.most l.p.class l.p.length l.p.place l.i = let a =
-    c.args in
-    c.loop-i.invariant a.cs.now a.ns.now
-    (rw c.class_at-c.ensures (starts a.m.now a.cs.now a.ns.now a.most (omega arith) c.requires.room_c c.requires.room_n)) in
-    let g = invariant in omega (arith, g.sum)
+    let invariant = c.loop-i.invariant _ _ (entry _ _ _ _ (omega arith) c.requires c.class_at-c.ensures) in
+    omega (arith, invariant.sum)
 
 pub shape_of-cs-then-k-most : goal.shape_of-cs-then-k-most
 shape_of-cs-then-k-most c =
-    let invariant : let s = c.args in let l = c.loop-i in ScanInvariant s.m.now s.cs.now s.ns.now l.cs l.ns s.most l.p.class l.p.length l.p.place l.i = let a =
-    c.args in
-    c.loop-i.invariant a.cs.now a.ns.now
-    (rw c.class_at-c.ensures (starts a.m.now a.cs.now a.ns.now a.most (omega arith) c.requires.room_c c.requires.room_n)) in
+    let invariant = c.loop-i.invariant _ _ (entry _ _ _ _ (omega arith) c.requires c.class_at-c.ensures) in
     long_c invariant
 
 pub shape_of-ns-then-k-most : goal.shape_of-ns-then-k-most
 shape_of-ns-then-k-most c =
-    let invariant : let s = c.args in let l = c.loop-i in ScanInvariant s.m.now s.cs.now s.ns.now l.cs l.ns s.most l.p.class l.p.length l.p.place l.i = let a =
-    c.args in
-    c.loop-i.invariant a.cs.now a.ns.now
-    (rw c.class_at-c.ensures (starts a.m.now a.cs.now a.ns.now a.most (omega arith) c.requires.room_c c.requires.room_n)) in
+    let invariant = c.loop-i.invariant _ _ (entry _ _ _ _ (omega arith) c.requires c.class_at-c.ensures) in
     long_n invariant
 
 pub returns-then-k-most : goal.returns-then-k-most
 returns-then-k-most c =
-    let invariant : let s = c.args in let l = c.loop-i in ScanInvariant s.m.now s.cs.now s.ns.now l.cs l.ns s.most l.p.class l.p.length l.p.place l.i = let a =
-    c.args in
-    c.loop-i.invariant a.cs.now a.ns.now
-    (rw c.class_at-c.ensures (starts a.m.now a.cs.now a.ns.now a.most (omega arith) c.requires.room_c c.requires.room_n)) in
+    let invariant = c.loop-i.invariant _ _ (entry _ _ _ _ (omega arith) c.requires c.class_at-c.ensures) in
     stopped invariant c.loop-i-test.true c.if-k-most.true
 
 pub run_on-j-requires : goal.run_on-j-requires
 run_on-j-requires c =
-    let invariant : let s = c.args in let l = c.loop-i in ScanInvariant s.m.now s.cs.now s.ns.now l.cs l.ns s.most l.p.class l.p.length l.p.place l.i = let a =
-    c.args in
-    c.loop-i.invariant a.cs.now a.ns.now
-    (rw c.class_at-c.ensures (starts a.m.now a.cs.now a.ns.now a.most (omega arith) c.requires.room_c c.requires.room_n)) in
+    let invariant = c.loop-i.invariant _ _ (entry _ _ _ _ (omega arith) c.requires c.class_at-c.ensures) in
     (omega arith, invariant.small)
 
 pub overflow_sub-p : goal.overflow_sub-p
@@ -110,34 +94,22 @@ overflow_sub-p c = omega (arith, c.run_on-j.ensures.onward)
 
 pub overflow_cast-p : goal.overflow_cast-p
 overflow_cast-p c =
-    let invariant : let s = c.args in let l = c.loop-i in ScanInvariant s.m.now s.cs.now s.ns.now l.cs l.ns s.most l.p.class l.p.length l.p.place l.i = let a =
-    c.args in
-    c.loop-i.invariant a.cs.now a.ns.now
-    (rw c.class_at-c.ensures (starts a.m.now a.cs.now a.ns.now a.most (omega arith) c.requires.room_c c.requires.room_n)) in
-    let g = invariant in omega (arith, c.run_on-j.ensures.within)
+    let invariant = c.loop-i.invariant _ _ (entry _ _ _ _ (omega arith) c.requires c.class_at-c.ensures) in
+    omega (arith, c.run_on-j.ensures.within)
 
 pub overflow_add-p : goal.overflow_add-p
 overflow_add-p c =
-    let invariant : let s = c.args in let l = c.loop-i in ScanInvariant s.m.now s.cs.now s.ns.now l.cs l.ns s.most l.p.class l.p.length l.p.place l.i = let a =
-    c.args in
-    c.loop-i.invariant a.cs.now a.ns.now
-    (rw c.class_at-c.ensures (starts a.m.now a.cs.now a.ns.now a.most (omega arith) c.requires.room_c c.requires.room_n)) in
-    let g = invariant in omega (arith, g.sum, c.run_on-j.ensures.within)
+    let invariant = c.loop-i.invariant _ _ (entry _ _ _ _ (omega arith) c.requires c.class_at-c.ensures) in
+    omega (arith, invariant.sum, c.run_on-j.ensures.within)
 
 pub offset_bounds-ns-k : goal.offset_bounds-ns-k
 offset_bounds-ns-k c =
-    let invariant : let s = c.args in let l = c.loop-i in ScanInvariant s.m.now s.cs.now s.ns.now l.cs l.ns s.most l.p.class l.p.length l.p.place l.i = let a =
-    c.args in
-    c.loop-i.invariant a.cs.now a.ns.now
-    (rw c.class_at-c.ensures (starts a.m.now a.cs.now a.ns.now a.most (omega arith) c.requires.room_c c.requires.room_n)) in
-    let g = invariant in omega (arith, g.few)
+    let invariant = c.loop-i.invariant _ _ (entry _ _ _ _ (omega arith) c.requires c.class_at-c.ensures) in
+    omega (arith, invariant.few)
 
 pub bounds-ns-k : goal.bounds-ns-k
 bounds-ns-k c =
-    let invariant : let s = c.args in let l = c.loop-i in ScanInvariant s.m.now s.cs.now s.ns.now l.cs l.ns s.most l.p.class l.p.length l.p.place l.i = let a =
-    c.args in
-    c.loop-i.invariant a.cs.now a.ns.now
-    (rw c.class_at-c.ensures (starts a.m.now a.cs.now a.ns.now a.most (omega arith) c.requires.room_c c.requires.room_n)) in
+    let invariant = c.loop-i.invariant _ _ (entry _ _ _ _ (omega arith) c.requires c.class_at-c.ensures) in
     (places invariant).1
 
 pub overflow_sub-m : goal.overflow_sub-m
@@ -148,10 +120,7 @@ steps_into-p-requires c = ready (goal.at.steps_into-p-requires c).After-run_on-j
 
 pub steps_into-p-requires-then-m-j-gt16 : goal.steps_into-p-requires-then-m-j-gt16
 steps_into-p-requires-then-m-j-gt16 c =
-    let invariant : let s = c.args in let l = c.loop-i in ScanInvariant s.m.now s.cs.now s.ns.now l.cs l.ns s.most l.p.class l.p.length l.p.place l.i = let a =
-    c.args in
-    c.loop-i.invariant a.cs.now a.ns.now
-    (rw c.class_at-c.ensures (starts a.m.now a.cs.now a.ns.now a.most (omega arith) c.requires.room_c c.requires.room_n)) in
+    let invariant = c.loop-i.invariant _ _ (entry _ _ _ _ (omega arith) c.requires c.class_at-c.ensures) in
     record {
       few = c.requires.few;
       within = omega arith;
@@ -199,32 +168,20 @@ loop-i-preserved c =
 
 pub overflow_add-tokens : goal.overflow_add-tokens
 overflow_add-tokens c =
-    let invariant : let s = c.args in let l = c.loop-i in ScanInvariant s.m.now s.cs.now s.ns.now l.cs l.ns s.most l.p.class l.p.length l.p.place l.i = let a =
-    c.args in
-    c.loop-i.invariant a.cs.now a.ns.now
-    (rw c.class_at-c.ensures (starts a.m.now a.cs.now a.ns.now a.most (omega arith) c.requires.room_c c.requires.room_n)) in
-    let g = invariant in omega arith
+    let invariant = c.loop-i.invariant _ _ (entry _ _ _ _ (omega arith) c.requires c.class_at-c.ensures) in
+    omega arith
 
 pub shape_of-cs : goal.shape_of-cs
 shape_of-cs c =
-    let invariant : let s = c.args in let l = c.loop-i in ScanInvariant s.m.now s.cs.now s.ns.now l.cs l.ns s.most l.p.class l.p.length l.p.place l.i = let a =
-    c.args in
-    c.loop-i.invariant a.cs.now a.ns.now
-    (rw c.class_at-c.ensures (starts a.m.now a.cs.now a.ns.now a.most (omega arith) c.requires.room_c c.requires.room_n)) in
+    let invariant = c.loop-i.invariant _ _ (entry _ _ _ _ (omega arith) c.requires c.class_at-c.ensures) in
     long_c invariant
 
 pub shape_of-ns : goal.shape_of-ns
 shape_of-ns c =
-    let invariant : let s = c.args in let l = c.loop-i in ScanInvariant s.m.now s.cs.now s.ns.now l.cs l.ns s.most l.p.class l.p.length l.p.place l.i = let a =
-    c.args in
-    c.loop-i.invariant a.cs.now a.ns.now
-    (rw c.class_at-c.ensures (starts a.m.now a.cs.now a.ns.now a.most (omega arith) c.requires.room_c c.requires.room_n)) in
+    let invariant = c.loop-i.invariant _ _ (entry _ _ _ _ (omega arith) c.requires c.class_at-c.ensures) in
     long_n invariant
 
 pub returns : goal.returns
 returns c =
-    let invariant : let s = c.args in let l = c.loop-i in ScanInvariant s.m.now s.cs.now s.ns.now l.cs l.ns s.most l.p.class l.p.length l.p.place l.i = let a =
-    c.args in
-    c.loop-i.invariant a.cs.now a.ns.now
-    (rw c.class_at-c.ensures (starts a.m.now a.cs.now a.ns.now a.most (omega arith) c.requires.room_c c.requires.room_n)) in
+    let invariant = c.loop-i.invariant _ _ (entry _ _ _ _ (omega arith) c.requires c.class_at-c.ensures) in
     finished invariant c.loop-i-test.false

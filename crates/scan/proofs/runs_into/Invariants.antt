@@ -1,5 +1,4 @@
--- `scan::runs_into` meets its contract: the loop's invariant and its steps are `ScanInvariant`'s. A chain of `.before` leads from a
--- place of the code to an earlier one.
+-- `scan::runs_into` meets its contract: the loop's invariant and its steps are `ScanInvariant`'s.
 -- Assumes nothing.
 use Prim.Native.Nat.{ℕ, ◌-◌}
 use mathlib.Core.List.{List}

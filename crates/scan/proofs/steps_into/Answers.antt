@@ -37,8 +37,8 @@ stepped : (c : Joined-d-c) →
     ScanInvariant s.args.m.now s.requires.old s.requires.new (set l.cs c.if-d-c.k d) (set l.ns c.if-d-c.k c.if-d-c.n)
     s.requires.most d c.if-d-c.n c.if-d-c.k (s.args.from + (l.t + 1))
 stepped c =
-    let invariant : let l = c.loop-t in ScanInvariant c.args.m.now c.requires.old c.requires.new l.cs l.ns c.requires.most l.c l.n l.k (c.args.from + l.t) = let p =
-    c.requires in c.loop-t.invariant.0 p.most p.old p.new (omega arith) p.invariant in
+    let p = c.requires in
+    let invariant = c.loop-t.invariant.0 p.most p.old p.new (omega arith) p.invariant in
     step c _ _ _ (omega arith) invariant
 
 -- the token that is written has its place
@@ -52,15 +52,15 @@ loop-t-init c = (λ most old new h g. rw add-zero g, omega arith, omega arith)
 
 pub overflow_add-n : goal.overflow_add-n
 overflow_add-n c =
-    let invariant : let l = c.loop-t in ScanInvariant c.args.m.now c.requires.old c.requires.new l.cs l.ns c.requires.most l.c l.n l.k (c.args.from + l.t) = let p =
-    c.requires in c.loop-t.invariant.0 p.most p.old p.new (omega arith) p.invariant in
-    let g = invariant in omega (arith, g.sum)
+    let p = c.requires in
+    let invariant = c.loop-t.invariant.0 p.most p.old p.new (omega arith) p.invariant in
+    omega (arith, invariant.sum)
 
 pub overflow_add-k : goal.overflow_add-k
 overflow_add-k c =
-    let invariant : let l = c.loop-t in ScanInvariant c.args.m.now c.requires.old c.requires.new l.cs l.ns c.requires.most l.c l.n l.k (c.args.from + l.t) = let p =
-    c.requires in c.loop-t.invariant.0 p.most p.old p.new (omega arith) p.invariant in
-    let g = invariant in omega arith
+    let p = c.requires in
+    let invariant = c.loop-t.invariant.0 p.most p.old p.new (omega arith) p.invariant in
+    omega arith
 
 pub bounds-cs-k : goal.bounds-cs-k
 bounds-cs-k c = (kept (goal.at.bounds-cs-k c).Joined-d-c).0
@@ -81,14 +81,14 @@ loop-t-preserved c =
 
 pub shape_of-cs : goal.shape_of-cs
 shape_of-cs c =
-    let invariant : let l = c.loop-t in ScanInvariant c.args.m.now c.requires.old c.requires.new l.cs l.ns c.requires.most l.c l.n l.k (c.args.from + l.t) = let p =
-    c.requires in c.loop-t.invariant.0 p.most p.old p.new (omega arith) p.invariant in
+    let p = c.requires in
+    let invariant = c.loop-t.invariant.0 p.most p.old p.new (omega arith) p.invariant in
     long_c invariant ∙ sym (long_c c.requires.invariant)
 
 pub shape_of-ns : goal.shape_of-ns
 shape_of-ns c =
-    let invariant : let l = c.loop-t in ScanInvariant c.args.m.now c.requires.old c.requires.new l.cs l.ns c.requires.most l.c l.n l.k (c.args.from + l.t) = let p =
-    c.requires in c.loop-t.invariant.0 p.most p.old p.new (omega arith) p.invariant in
+    let p = c.requires in
+    let invariant = c.loop-t.invariant.0 p.most p.old p.new (omega arith) p.invariant in
     long_n invariant ∙ sym (long_n c.requires.invariant)
 
 pub returns : goal.returns

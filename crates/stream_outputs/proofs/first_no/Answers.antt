@@ -1,10 +1,9 @@
 -- `stream_outputs::first_no` meets its contract.
 -- Assumes nothing.
-use Prim.Native.Nat.{◌≤◌}
 use native.Mathlib.Omega.{arith}
 use Rattle.counts.proofs.TokenSums.{tokens-few}
 use Rattle.breakdown.proofs.Modes.{active-measures}
-use Rattle.stream_outputs.proofs.Pass.{roomy, no-1, no-2, no-4, no-0, sum, due-tokens, due-bytes}
+use Rattle.stream_outputs.proofs.Pass.{roomy, no-1, no-2, no-4, no-0, due-tokens, due-bytes}
 use Rattle.stream_outputs.proofs.first_no.Goals as goal
 
 pub returns-then-m-gt1048576 : goal.returns-then-m-gt1048576
@@ -31,33 +30,28 @@ returns-then-due-places c =
 
 pub overflow_add-l : goal.overflow_add-l
 overflow_add-l c =
-    let summed : sum c.due_of_measures-due.result.lengths ≤ 17825825 = let m = c.args.m.now in
-    omega (arith, due-bytes m _ c.active_range.ensures c.due_of_measures-due.ensures, roomy m) in
-    omega (arith, summed)
+    let m = c.args.m.now in
+    omega (arith, due-bytes m _ c.active_range.ensures c.due_of_measures-due.ensures, roomy m)
 
 pub overflow_add-l-2 : goal.overflow_add-l-2
 overflow_add-l-2 c =
-    let summed : sum c.due_of_measures-due.result.lengths ≤ 17825825 = let m = c.args.m.now in
-    omega (arith, due-bytes m _ c.active_range.ensures c.due_of_measures-due.ensures, roomy m) in
-    omega (arith, summed)
+    let m = c.args.m.now in
+    omega (arith, due-bytes m _ c.active_range.ensures c.due_of_measures-due.ensures, roomy m)
 
 pub overflow_add-l-3 : goal.overflow_add-l-3
 overflow_add-l-3 c =
-    let summed : sum c.due_of_measures-due.result.lengths ≤ 17825825 = let m = c.args.m.now in
-    omega (arith, due-bytes m _ c.active_range.ensures c.due_of_measures-due.ensures, roomy m) in
-    omega (arith, summed)
+    let m = c.args.m.now in
+    omega (arith, due-bytes m _ c.active_range.ensures c.due_of_measures-due.ensures, roomy m)
 
 pub overflow_add-l-4 : goal.overflow_add-l-4
 overflow_add-l-4 c =
-    let summed : sum c.due_of_measures-due.result.lengths ≤ 17825825 = let m = c.args.m.now in
-    omega (arith, due-bytes m _ c.active_range.ensures c.due_of_measures-due.ensures, roomy m) in
-    omega (arith, summed)
+    let m = c.args.m.now in
+    omega (arith, due-bytes m _ c.active_range.ensures c.due_of_measures-due.ensures, roomy m)
 
 pub overflow_add-l-5 : goal.overflow_add-l-5
 overflow_add-l-5 c =
-    let summed : sum c.due_of_measures-due.result.lengths ≤ 17825825 = let m = c.args.m.now in
-    omega (arith, due-bytes m _ c.active_range.ensures c.due_of_measures-due.ensures, roomy m) in
-    omega (arith, summed)
+    let m = c.args.m.now in
+    omega (arith, due-bytes m _ c.active_range.ensures c.due_of_measures-due.ensures, roomy m)
 
 pub returns-then-l-room : goal.returns-then-l-room
 returns-then-l-room c =
