@@ -1,9 +1,12 @@
 -- Demand 3, second half, holds: whatever a call wrote is document 01's text, and two texts are the same exactly when the reduced lists are.
 -- Assumes nothing.
 use Prim.Native.Nat.{ℕ, zero, suc}
+use Rattle.std.specs.Prelude.{Option, Some, None}
 use mathlib.Core.Path.{◌≡◌, refl, sym, ap, ◌∙◌}
 use mathlib.Core.List.{List}
 use native.Mathlib.Omega.{arith}
+use mathlib.Core.Bool.{cond}
+use lib.Dec.{eqb}
 use lib.ListN.{length, take, drop}
 use lib.Seq.{take-append_seam}
 use Rattle.number.specs.Questions.{accepted, filled}
@@ -15,8 +18,6 @@ use Rattle.rules.specs.Texts.{text, end_to_end, lengths_of, pass_kinds}
 use Rattle.rules.specs.Calls.{level_number, label_choice}
 use Rattle.rules.specs.declared.StreamBreakdownLevel.{StreamBreakdownLevel}
 use Rattle.rules.specs.declared.StreamBreakdownLevel.TheVariants as Level
-use Rattle.rules.specs.declared.LabelChoice.{LabelChoice}
-use Rattle.rules.specs.declared.LabelChoice.TheVariants.{Fits, NoneFits}
 use Rattle.rules.proofs.Demand.{exactly}
 use Rattle.chart_texts.specs.declared.ThreeWritten.{ThreeWritten}
 use Rattle.label.specs.Promises.{label_text, label_level}
@@ -36,32 +37,27 @@ several : (q : ℕ) (ks : List Kind) (i : ℕ) (k : Kind) (m old new ns zs : Lis
 several zero ks i k m old new ns zs h e l b = rw (l, b) (nth-text ks i k m (drop (length (end_to_end ks m)) old) h)
 several (suc q) ks i k m old new ns zs h e l b = absurd (omega (arith, e))
 
+-- levels of one number are one level
+abbrev level_of : ℕ → StreamBreakdownLevel
+level_of n = cond (eqb n 1) Level.Detailed (cond (eqb n 2) Level.Partial (cond (eqb n 3) Level.Simple Level.Total))
+
+level-of : (l : StreamBreakdownLevel) → level_of (level_number l) ≡ l
+level-of Level.Detailed = refl
+level-of Level.Partial = refl
+level-of Level.Simple = refl
+level-of Level.Total = refl
+
 level-one : (k l : StreamBreakdownLevel) → level_number k ≡ level_number l → k ≡ l
-level-one Level.Detailed Level.Detailed e = refl
-level-one Level.Detailed Level.Partial e = absurd (omega (arith, e))
-level-one Level.Detailed Level.Simple e = absurd (omega (arith, e))
-level-one Level.Detailed Level.Total e = absurd (omega (arith, e))
-level-one Level.Partial Level.Detailed e = absurd (omega (arith, e))
-level-one Level.Partial Level.Partial e = refl
-level-one Level.Partial Level.Simple e = absurd (omega (arith, e))
-level-one Level.Partial Level.Total e = absurd (omega (arith, e))
-level-one Level.Simple Level.Detailed e = absurd (omega (arith, e))
-level-one Level.Simple Level.Partial e = absurd (omega (arith, e))
-level-one Level.Simple Level.Simple e = refl
-level-one Level.Simple Level.Total e = absurd (omega (arith, e))
-level-one Level.Total Level.Detailed e = absurd (omega (arith, e))
-level-one Level.Total Level.Partial e = absurd (omega (arith, e))
-level-one Level.Total Level.Simple e = absurd (omega (arith, e))
-level-one Level.Total Level.Total e = refl
+level-one k l e = sym (level-of k) ∙ ap level_of e ∙ level-of l
 
 -- the level that a label answers is the one whose text it wrote
-labelled : (q : ℕ) (c : LabelChoice) (l : StreamBreakdownLevel) (m : List ℕ) → q ≡ 0 → level_number l ≡ accepted q (label_level c) 0
+labelled : (q : ℕ) (c : Option StreamBreakdownLevel) (l : StreamBreakdownLevel) (m : List ℕ) → q ≡ 0 → level_number l ≡ accepted q (label_level c) 0
     → label_text c m ≡ text (standard l) m
-labelled zero (Fits k) l m e h = ap (λ (j : StreamBreakdownLevel). text (standard j) m) (level-one k l (sym h))
-labelled zero NoneFits Level.Detailed m e h = absurd (omega (arith, h))
-labelled zero NoneFits Level.Partial m e h = absurd (omega (arith, h))
-labelled zero NoneFits Level.Simple m e h = absurd (omega (arith, h))
-labelled zero NoneFits Level.Total m e h = absurd (omega (arith, h))
+labelled zero (Some k) l m e h = ap (λ (j : StreamBreakdownLevel). text (standard j) m) (level-one k l (sym h))
+labelled zero None Level.Detailed m e h = absurd (omega (arith, h))
+labelled zero None Level.Partial m e h = absurd (omega (arith, h))
+labelled zero None Level.Simple m e h = absurd (omega (arith, h))
+labelled zero None Level.Total m e h = absurd (omega (arith, h))
 labelled (suc q) c l m e h = absurd (omega (arith, e))
 
 -- sheet's texts are its lines from the third on

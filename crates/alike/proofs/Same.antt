@@ -1,15 +1,18 @@
 -- For alike: stream measures at the same places, and from there to the standard detailed texts.
 -- Assumes nothing.
-use Prim.Native.Nat.{ℕ, ◌+◌, ◌≤◌, ◌<◌}
+use Prim.Native.Nat.{ℕ, ◌<◌}
 use mathlib.Core.Path.{◌≡◌, refl, sym, ap, ◌∙◌}
-use mathlib.Core.Bool.{Bool, true, false, not, beq, false≢true}
+use mathlib.Core.Bool.{Bool, true, beq, false≢true}
 use mathlib.Core.Logic.{◌↔◌, inl, inr}
 use mathlib.Core.List.{List}
 use native.Mathlib.Omega.{arith}
 use lib.Dec.{ltb}
-use lib.ListN.{length, get_or, length-map}
-use borrow.Author.Count.{below_more}
+use lib.ListN.{length, length-map}
 use borrow.Author.Tests.{ltb-true, ltb-false}
+use Rattle.std.specs.List.{list_all, zip}
+use Rattle.std.proofs.lemmas.Bool.Decides.{same_from_decides}
+use Rattle.std.proofs.lemmas.List.Recursion.{and_at, and_from_places}
+use Rattle.std.proofs.lemmas.Slice.Zip.{length-zip, get_or-zip}
 use Rattle.number.proofs.Split.{split}
 use Rattle.rules.specs.Bytes.{same_bytes}
 use Rattle.rules.specs.Chart.{class_of, classes, active, active_part}
@@ -17,7 +20,7 @@ use Rattle.rules.specs.declared.Kind.TheVariants.{Standard as standard}
 use Rattle.rules.specs.Texts.{text}
 use Rattle.rules.specs.Demand.{Stream, SamePlaces, SameStreams}
 use Rattle.rules.specs.declared.StreamBreakdownLevel.TheVariants as Level
-use Rattle.rules.proofs.Bytes.{bytes_same, same_bytes_lem}
+use Rattle.rules.proofs.Bytes.{same-exactly}
 use Rattle.rules.proofs.Steps.{class-0, active-part}
 use Rattle.rules.proofs.Places.{no-active}
 use Rattle.rules.proofs.Demand.{exactly, same_length, same_text}
@@ -26,69 +29,44 @@ use Rattle.measures.proofs.Part.{stream-class, class-of-place}
 
 -- ---- stream measures at the same places
 
--- a density's class is a stream's exactly from 16 on
-stream-from : (d : ℕ) → Stream (class_of d) ↔ (ltb d 16 ≡ false)
-stream-from d =
+-- are both stream measures, or neither?
+abbrev pub together : ℕ × ℕ → Bool
+together p = beq (ltb p.0 16) (ltb p.1 16)
+
+tells : (d e : ℕ) → (together (d, e) ≡ true) ↔ (Stream (class_of d) ↔ Stream (class_of e))
+tells d e =
     split (ltb d 16)
-    (λ e. let z = class-0 d (ltb-true d 16 e) in (λ s. absurd (omega (arith, z)), λ f. absurd (false≢true (sym f ∙ e))))
-    (λ e. let s = stream-class d (ltb-false d 16 e) in (λ h. e, λ f. omega (arith, s.1)))
-
-module _ (d e : ℕ) where
-  test-stream : ltb d 16 ≡ ltb e 16 → Stream (class_of d) → Stream (class_of e)
-  test-stream q s = (stream-from e).1 (sym q ∙ (stream-from d).0 s)
-
-  stream-test : Stream (class_of d) ↔ Stream (class_of e) → ltb d 16 ≡ ltb e 16
-  stream-test h =
-      split (ltb d 16)
-      (λ x. split (ltb e 16) (λ y. x ∙ sym y) (λ y. x ∙ absurd (false≢true (sym ((stream-from d).0 (h.1 ((stream-from e).1 y))) ∙ x))))
-      (λ x. x ∙ sym ((stream-from e).0 (h.0 ((stream-from d).1 x))))
-
-alike-bools : (x y : Bool) → not (beq x y) ≡ false → x ≡ y
-alike-bools true true e = refl
-alike-bools true false e = e
-alike-bools false true e = sym e
-alike-bools false false e = refl
-
-other-bools : (x y : Bool) → not (beq x y) ≡ true → x ≡ y → false ≡ true
-other-bools true y e q = ap (λ (z : Bool). not (beq true z)) q ∙ e
-other-bools false y e q = ap (λ (z : Bool). not (beq false z)) q ∙ e
+    (λ x. let z = class-0 d (ltb-true d 16 x) in
+    split (ltb e 16)
+    (λ y. rw (x, y, z, class-0 e (ltb-true e 16 y)) (λ t. (λ s. s, λ s. s), λ h. refl))
+    (λ y. rw (x, y, z, (stream-class e (ltb-false e 16 y)).1) (λ t. absurd (false≢true t), λ h. absurd (omega (arith, h.1 (omega arith))))))
+    (λ x. let s = stream-class d (ltb-false d 16 x) in
+    split (ltb e 16)
+    (λ y. rw (x, y, s.1, class-0 e (ltb-true e 16 y)) (λ t. absurd (false≢true t), λ h. absurd (omega (arith, h.0 (omega arith)))))
+    (λ y. rw (x, y, s.1, (stream-class e (ltb-false e 16 y)).1) (λ t. (λ h. omega arith, λ h. omega arith), λ h. refl)))
 
 module _ (a b : List ℕ) where
-  -- the loop: so far, stream measures stand at the same places
-  pub record Agree (i : ℕ) : Type 0 where
-    pub long : length a ≡ length b
-    pub within : i ≤ length a
-    pub each : (k : ℕ) → k < i → ltb (get_or a k 0) 16 ≡ ltb (get_or b k 0) 16
-
-  pub agree-none : length a ≡ length b → Agree 0
-  agree-none h = record { long = h; within = omega arith; each = λ k l. absurd (omega arith) }
-
-  module _ (i : ℕ) (g : Agree i) where
-    pub agree-more : i < length a → not (beq (ltb (get_or a i 0) 16) (ltb (get_or b i 0) 16)) ≡ false → Agree (i + 1)
-    agree-more h t = record { long = g.long; within = omega arith; each = below_more _ _ g.each (alike-bools _ _ t) }
-
-    pub agree-all : length a ≤ i → SamePlaces (classes a) (classes b)
-    agree-all h =
-        record {
-          long = length-map a class_of ∙ g.long ∙ sym (length-map b class_of);
-          places = λ k l.
-              let e = g.each k (omega (arith, rw length-map at l)) in
-              rw (class-of-place a k, class-of-place b k) (test-stream (get_or a k 0) (get_or b k 0) e, test-stream (get_or b k 0) (get_or a k 0) (sym e));
-        }
-
-  pub unlike-length : (length a ≡ length b → ⊥) → SamePlaces (classes a) (classes b) → false ≡ true
-  unlike-length h s = absurd (h (sym (length-map a class_of) ∙ s.long ∙ length-map b class_of))
-
-  pub unlike-place : (i : ℕ) → i < length a → not (beq (ltb (get_or a i 0) 16) (ltb (get_or b i 0) 16)) ≡ true
-      → SamePlaces (classes a) (classes b) → false ≡ true
-  unlike-place i h t s = other-bools _ _ t (stream-test _ _ (rw (class-of-place a i, class-of-place b i) at (s.places i (rw length-map h))))
+  -- r is whether all pairs are together
+  pub agree : (r : Bool) → length a ≡ length b → r ≡ list_all together (zip a b) → (r ≡ true) ↔ SamePlaces (classes a) (classes b)
+  agree r h q =
+      rw q (
+        λ e. record {
+          long = length-map a class_of ∙ h ∙ sym (length-map b class_of);
+          places = λ i l.
+              let k : i < length a = rw length-map at l in
+              rw (class-of-place a i, class-of-place b i)
+              ((tells _ _).0
+              (rw (get_or-zip a b i (0, 0) k (omega arith)) at
+              (and_at (list_all together) together refl (λ x xs. refl) (zip a b) i (0, 0) (omega (arith, length-zip a b)) e)));
+        },
+        λ s. and_from_places (list_all together) together refl (λ x xs. refl) (zip a b) (0, 0)
+            (λ i l.
+            let k : i < length a = omega (arith, length-zip a b) in
+            rw (get_or-zip a b i (0, 0) k (omega arith))
+            ((tells _ _).1 (rw (class-of-place a i, class-of-place b i) at (s.places i (rw length-map k))))),
+      )
 
 -- ---- the texts
-
-both_ways : (r s : Bool) → (r ≡ true → s ≡ true) → (s ≡ true → r ≡ true) → r ≡ s
-both_ways true s f g = sym (f refl)
-both_ways false true f g = g refl
-both_ways false false f g = refl
 
 in-active : (x y : List ℕ) → SameStreams x y → SamePlaces (active x) (active y)
 in-active x y (inr s) = s
@@ -101,9 +79,9 @@ alike a b x y r ex ey h =
     let tell = (exactly a b).detailed in
     let ea : classes x ≡ active (classes a) = ap classes ex ∙ active-part a in
     let eb : classes y ≡ active (classes b) = ap classes ey ∙ active-part b in
-    both_ways r _
-    (λ t. rw (tell.1 (inr (rw (ea, eb) at (h.0 t)))) (bytes_same (text (standard Level.Detailed) b)))
-    (λ t. h.1 (rw (ea, eb) (in-active _ _ (tell.0 (same_bytes_lem _ _ t)))))
+    same_from_decides r _
+    (λ t. tell.1 (inr (rw (ea, eb) at (h.0 t))), λ e. h.1 (rw (ea, eb) (in-active _ _ (tell.0 e))))
+    (same-exactly (text (standard Level.Detailed) a) (text (standard Level.Detailed) b))
 
 -- ---- charts of equal classes
 

@@ -30,7 +30,8 @@ use Rattle.sn_text.specs.Sn.{limit_of, sn_at}
 use Rattle.standard_text.specs.Standard.{glue, merged, gap_item, standard_of, total_text}
 use Rattle.text_buffer.specs.Parts.{Tokens}
 use Rattle.sn_text.specs.SnParts.{spaced, sn_of}
-use Rattle.breakdown.specs.Forms.{form_of, is_total, text_of, ActiveMeasures}
+use Rattle.breakdown.specs.Forms.{form_of, is_total, text_of}
+use Rattle.breakdown.specs.Parts.{ActiveMeasures}
 use Rattle.text_buffer.proofs.Reading.{opens-break}
 
 -- ---- the tokens of a chart alternate
@@ -69,8 +70,8 @@ alternates (suc c ∷ cs) (h & l) =
 
 -- ---- the tokens of a chart, in two slices
 
-pub tokens-of : (cs ns chart : List ℕ) → paired cs ns ≡ tokens (classes chart) → length cs ≡ length ns → length cs ≤ 1048576 → Tokens cs ns
-tokens-of cs ns chart e l h = record { long = l; few = h; alternates = rw e (alternates (classes chart) (low-classes chart)) }
+pub tokens-of : (cs ns chart : List ℕ) → paired cs ns ≡ tokens (classes chart) → length cs ≤ 1048576 → Tokens cs ns
+tokens-of cs ns chart e h = record { few = h; alternates = rw e (alternates (classes chart) (low-classes chart)) }
 
 -- ---- the measures of its active part
 

@@ -1,35 +1,14 @@
 // The forms of the six texts that are made of tokens.
-ghost use Rattle.std.specs.Prelude.{◌≡◌};
-ghost use Rattle.breakdown.specs.Forms.{sn_form, standard_form, form_of, is_total};
+ghost use Rattle.std.specs.Prelude.{◌≡◌, ◌<◌};
+ghost use Rattle.breakdown.specs.Forms.{form_of, is_total, pass_form};
 
 use rules::{BreakdownMode, Kind, StreamBreakdownLevel};
 
-// SN (`sn`) or standard; the longest break or gap over which runs or pieces join; in a standard text, whether gaps are shown as signs.
-#[derive(Clone, Copy)]
-pub struct Form {
-    pub sn: bool,
-    pub limit: u32,
-    pub signs: bool,
-}
-
-pub fn sn_form(limit: u32) -> Form
-    ensures { result ≡ sn_form limit }
-{
-    Form {
-        sn: true,
-        limit,
-        signs: false,
-    }
-}
-
-pub fn standard_form(limit: u32, signs: bool) -> Form
-    ensures { result ≡ standard_form limit signs }
-{
-    Form {
-        sn: false,
-        limit,
-        signs,
-    }
+// SN or standard, by the longest break or gap over which runs or pieces join; in a standard text gaps are shown as signs, or by their length.
+#[derive(Clone, Copy, Debug, PartialEq, Eq)]
+pub enum Form {
+    Sn { limit: u32 },
+    Standard { limit: u32, signs: bool },
 }
 
 // The form of a kind's text; Total is not made of tokens.
@@ -37,16 +16,22 @@ pub fn form_of(kind: Kind) -> Form
     ensures { result ≡ form_of kind }
 {
     match kind {
-        Kind::Sn(mode) => match mode {
-            BreakdownMode::Detailed => sn_form(0),
-            BreakdownMode::Partial => sn_form(1),
-            BreakdownMode::Simplified => sn_form(4),
+        Kind::Sn(BreakdownMode::Detailed) => Form::Sn { limit: 0 },
+        Kind::Sn(BreakdownMode::Partial) => Form::Sn { limit: 1 },
+        Kind::Sn(BreakdownMode::Simplified) => Form::Sn { limit: 4 },
+        Kind::Standard(StreamBreakdownLevel::Detailed | StreamBreakdownLevel::Total) => {
+            Form::Standard {
+                limit: 0,
+                signs: false,
+            }
+        }
+        Kind::Standard(StreamBreakdownLevel::Partial) => Form::Standard {
+            limit: 0,
+            signs: true,
         },
-        Kind::Standard(level) => match level {
-            StreamBreakdownLevel::Detailed => standard_form(0, false),
-            StreamBreakdownLevel::Partial => standard_form(0, true),
-            StreamBreakdownLevel::Simple => standard_form(1, true),
-            StreamBreakdownLevel::Total => standard_form(0, false),
+        Kind::Standard(StreamBreakdownLevel::Simple) => Form::Standard {
+            limit: 1,
+            signs: true,
         },
     }
 }
@@ -54,13 +39,29 @@ pub fn form_of(kind: Kind) -> Form
 pub fn is_total(kind: Kind) -> bool
     ensures { result ≡ is_total kind }
 {
-    match kind {
-        Kind::Sn(mode) => false,
-        Kind::Standard(level) => match level {
-            StreamBreakdownLevel::Detailed => false,
-            StreamBreakdownLevel::Partial => false,
-            StreamBreakdownLevel::Simple => false,
-            StreamBreakdownLevel::Total => true,
+    matches!(kind, Kind::Standard(StreamBreakdownLevel::Total))
+}
+
+// The form of text i of the six that the pass writes.
+pub fn pass_form(i: usize) -> Form
+    requires { i < 6 }
+    ensures { result ≡ pass_form i }
+{
+    match i {
+        0 => Form::Sn { limit: 0 },
+        1 => Form::Sn { limit: 1 },
+        2 => Form::Sn { limit: 4 },
+        3 => Form::Standard {
+            limit: 0,
+            signs: false,
+        },
+        4 => Form::Standard {
+            limit: 0,
+            signs: true,
+        },
+        _ => Form::Standard {
+            limit: 1,
+            signs: true,
         },
     }
 }

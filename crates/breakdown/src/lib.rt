@@ -3,5 +3,6 @@
 
 pub mod form;
 pub mod length;
+pub mod parts;
 pub mod text;
 pub mod total;

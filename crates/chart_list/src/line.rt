@@ -1,29 +1,51 @@
-// Lines of answers, put together at the front of a lent slice. What finds no room is left out.
-ghost use Rattle.std.specs.Counts.{IsPrefixLen};
+// Parts of a printed line.
+ghost use Rattle.std.specs.Prelude.{◌≡◌, MatchResult};
+ghost use Rattle.number.specs.Refusal.{carried};
+ghost use Rattle.rules.specs.Chart.{count_numbers};
+ghost use Rattle.chart_list.specs.Line.{spaced};
 
-// `text` from the place `at` on, as far as it fits; the next place is answered.
-pub fn put_bytes(out: &mut [u8], at: usize, text: &[u8]) -> usize
-    ensures { IsPrefixLen result out.new }
-{
-    if out.len() < at {
-        return out.len();
+use number::refusal::Refusal;
+use rules::StreamCounts;
+use std::fmt;
+
+// Numbers, each after a space.
+#[derive(Clone, Copy)]
+pub struct Spaced<'a, T>(pub &'a [T]);
+
+impl<T: fmt::Display> fmt::Display for Spaced<'_, T> {
+    ghost output = { λ s. spaced T.output s.0.now };
+
+    fn fmt<W: fmt::Write>(&self, f: &mut fmt::Formatter<W>) -> fmt::Result {
+        for number in self.0 {
+            write!(f, " {number}")?;
+        }
+        Ok(())
     }
-    let mut i = at;
-    let mut k = 0;
-    while i < out.len() && k < text.len() {
-        out[i] = text[k];
-        i += 1;
-        k += 1;
-    }
-    i
 }
 
-// The digits of `n` from the place `at` on, as far as they fit; the next place is answered.
-pub fn put_number(out: &mut [u8], at: usize, n: u64) -> usize
-    ensures { IsPrefixLen result out.new }
+// The eight counts in their order.
+pub fn numbers_of(counts: StreamCounts) -> [u32; 8]
+    ensures { result ≡ count_numbers counts }
 {
-    let mut digits = [0u8; 20];
-    let written = number::push_u64(&mut digits, n, 0);
-    let length = written.length;
-    put_bytes(out, at, &digits[..length])
+    [
+        counts.run16_streams,
+        counts.run20_streams,
+        counts.run24_streams,
+        counts.run32_streams,
+        counts.total_breaks,
+        counts.sn_breaks,
+        counts.lead,
+        counts.tail,
+    ]
+}
+
+// The number of the refusal, 0 where there is none, and what was answered, or `none`.
+pub fn numbered<T: Drop>(answer: Result<T, Refusal>, none: T) -> (u32, T)
+    ensures number { result.0 ≡ carried answer }
+    ensures value { MatchResult answer (λ value. result.1 ≡ value) (λ _. result.1 ≡ none) }
+{
+    match answer {
+        Ok(value) => (0, value),
+        Err(refusal) => (refusal.number(), none),
+    }
 }

@@ -1,106 +1,97 @@
 -- Texts end to end: their room, their lengths and their bytes; and how the promise of the calls that write three of them follows.
 -- Assumes nothing.
-use Prim.Native.Nat.{ℕ, ◌+◌, ◌*◌, ◌-◌, ◌≤◌, ◌<◌}
-use mathlib.Core.Path.{◌≡◌, refl, ap}
-use mathlib.Core.Bool.{true, false}
-use mathlib.Core.List.{List, [], ◌∷◌, append-nil}
-use native.Mathlib.Nat.{zero-add}
-use native.Mathlib.Omega.{arith}
-use lib.Dec.{leb}
-use lib.ListN.{length, length-append, replicate}
-use borrow.Author.Tests.{le-leb, lt-leb, leb-true}
+use Rattle.std.proofs.Common.{ℕ, zero, suc, ◌+◌, ◌-◌, ◌*◌, ◌≤◌, ◌<◌, ◌≡◌, refl, sym, ap, ◌∙◌, true, List, [], ◌∷◌, ◌++◌, length, take, drop, get_or, arith, leb, append_assoc, append-nil, length-append, add-one}
+use Rattle.std.proofs.Math.ListN.{set, length-set}
+use Rattle.std.proofs.Math.Seq.{take-suc-set, take_all}
+use borrow.Author.Tests.{le-leb, leb-true}
+use Rattle.std.specs.List.{sum_by}
+use Rattle.std.proofs.lemmas.List.Sums.{sum_by-cons}
 use Rattle.number.specs.Place.{Room, Wrote}
 use Rattle.number.specs.Questions.{filled}
 use Rattle.number.proofs.Place.{still, room-first, room_next, wrote, at-start}
 use Rattle.rules.specs.declared.Kind.{Kind}
+use Rattle.rules.specs.declared.Kind.TheVariants.{Sn as sn}
+use Rattle.rules.specs.declared.BreakdownMode.TheVariants as Mode
 use Rattle.rules.specs.Texts.{text, end_to_end, lengths_of}
-use Rattle.measures.specs.Domain.{Domain}
-use Rattle.chart_texts.proofs.Texts.{text-short}
 use Rattle.chart_texts.specs.Promises.{three_no, Breakdowns}
-use Rattle.chart_texts.specs.declared.ThreeWritten.{ThreeWritten}
+use Rattle.chart_texts.proofs.Texts.{text-short}
 
 module _ (m : List ℕ) where
-  -- the texts of some kinds, written one after the other from `at` on, and the length of each
-  pub data Chain : List Kind → List ℕ → ℕ → List ℕ → List ℕ → Type 0 where
-    ended : {out : List ℕ} {at : ℕ} → Chain [] out at out []
-    wrote_one : {k : Kind} {ks : List Kind} {xs out mid new ls : List ℕ} {at r : ℕ} → xs ≡ text k m → Wrote out mid at xs r
-        → Chain ks mid r new ls → Chain (k ∷ ks) out at new ((r - at) ∷ ls)
+  -- how long a text is
+  abbrev pub due : Kind → ℕ
+  due k = length (text k m)
 
-  chain-lengths : {ks : List Kind} {out new ls : List ℕ} {at : ℕ} → Chain ks out at new ls → ls ≡ lengths_of ks m
-  chain-lengths ended = refl
-  chain-lengths (wrote_one {k = k} {at = at} {r = r} e w c) =
-      let h : r - at ≡ length (text k m) = omega (arith, w.next, ap {B = ℕ} length e) in
-      rw (h, chain-lengths c)
+  pub due-bytes : (ks : List Kind) → sum_by due ks ≡ length (end_to_end ks m)
+  due-bytes [] = refl
+  due-bytes (k ∷ ks) = omega (arith, sum_by-cons due k ks, due-bytes ks, length-append (text k m) (end_to_end ks m))
 
-  chain-wrote : {ks : List Kind} {out new ls : List ℕ} {at : ℕ} → Chain ks out at new ls → (r : ℕ) × Wrote out new at (end_to_end ks m) r
-  chain-wrote ended = (_, still)
-  chain-wrote (wrote_one {k = k} {ks = ks} e w c) =
-      let t = chain-wrote c in
-      (t.0, wrote (text k m) (end_to_end ks m) (rw e at w) t.1)
+  due-most : (ks : List Kind) → length (end_to_end ks m) ≤ length ks * (4 * length m + 11)
+  due-most [] = omega arith
+  due-most (k ∷ ks) = omega (arith, due-most ks, text-short m k, length-append (text k m) (end_to_end ks m))
 
-  -- from the slice's start on
-  pub from_start : {ks : List Kind} {old new ls : List ℕ} {a : ℕ} → length (end_to_end ks m) ≤ length old → Chain ks old 0 new ((a - 0) ∷ ls)
-      → (a ∷ ls ≡ lengths_of ks m) × (new ≡ filled old (end_to_end ks m))
-  from_start {ks} {old} {new} {a = a} h c =
-      let w = chain-wrote c in
-      let z : a - 0 ≡ a = omega arith in
-      (rw z at (chain-lengths c), (at-start (end_to_end ks m) old new w.0 h w.1).1)
+  pub three-short : (ks : List Kind) → length ks ≡ 3 → length (end_to_end ks m) ≤ 12 * length m + 33
+  three-short ks e = omega (arith, rw e at (due-most ks))
 
--- ---- three texts
+  -- ---- text number i, what stands before it and what comes after it
 
-module _ (k₁ k₂ k₃ : Kind) (m : List ℕ) where
-  abbrev ks : List Kind
-  ks = k₁ ∷ k₂ ∷ k₃ ∷ []
+  abbrev kind_at : List Kind → ℕ → Kind
+  kind_at ks i = get_or ks i (sn Mode.Detailed)
 
-  abbrev whole : List ℕ
-  whole = end_to_end ks m
+  parts : (ks : List Kind) (i : ℕ) → i < length ks
+      → end_to_end ks m ≡ end_to_end (take i ks) m ++ (text (kind_at ks i) m ++ end_to_end (drop (suc i) ks) m)
+  parts [] i h = absurd (omega arith)
+  parts (k ∷ ks) zero h = refl
+  parts (k ∷ ks) (suc i) h = rw append_assoc (ap (λ (l : List ℕ). text k m ++ l) (parts ks i (omega arith)))
 
-  pub three-length : length whole ≡ length (text k₁ m) + length (text k₂ m) + length (text k₃ m)
-  three-length = simp (append-nil, length-append) (omega arith)
+  next-bytes : (ks : List Kind) (i : ℕ) → i < length ks → end_to_end (take (suc i) ks) m ≡ end_to_end (take i ks) m ++ text (kind_at ks i) m
+  next-bytes [] i h = absurd (omega arith)
+  next-bytes (k ∷ ks) zero h = append-nil (text k m)
+  next-bytes (k ∷ ks) (suc i) h = rw append_assoc (ap (λ (l : List ℕ). text k m ++ l) (next-bytes ks i (omega arith)))
 
-  pub three-short : length whole ≤ 12 * length m + 33
-  three-short = omega (arith, three-length, text-short m k₁, text-short m k₂, text-short m k₃)
+  next-length : (ks : List Kind) (i : ℕ) → i < length ks → lengths_of (take (suc i) ks) m ≡ lengths_of (take i ks) m ++ (due (kind_at ks i) ∷ [])
+  next-length [] i h = absurd (omega arith)
+  next-length (k ∷ ks) zero h = refl
+  next-length (k ∷ ks) (suc i) h = ap (λ (l : List ℕ). due k ∷ l) (next-length ks i (omega arith))
 
-  module _ (old : List ℕ) where
-    abbrev refusal : ℕ → ThreeWritten
-    refusal n = record { refused = n; lengths = replicate 3 0 }
+-- the first i texts stand end to end at the slice's start, and their lengths in a list as long as that of the kinds
+pub record Going (m : List ℕ) (ks : List Kind) (old : List ℕ) (i : ℕ) (out : List ℕ) (at : ℕ) (lengths : List ℕ) : Type 0 where
+  pub sofar : Wrote old out 0 (end_to_end (take i ks) m) at
+  pub each : take i lengths ≡ lengths_of (take i ks) m
+  pub long : length lengths ≡ length ks
 
-    pub three-1 : 1048576 < length m → Breakdowns ks m old old (refusal 1)
-    three-1 h =
-        let no : three_no ks m old ≡ 1 = rw (lt-leb (length m) 1048576 h) in
-        record { answer = rw no; bytes = rw no }
+module _ {m : List ℕ} {ks : List Kind} {old out lengths : List ℕ} {i at : ℕ} (g : Going m ks old i out at lengths) where
+  module _ (h : i < length ks) where
+    abbrev here : List ℕ
+    here = text (kind_at m ks i) m
 
-    module _ (d : length m ≤ 1048576) where
-      pub three-4 : leb (length whole) (length old) ≡ false → Breakdowns ks m old old (refusal 4)
-      three-4 h =
-          let no : three_no ks m old ≡ 4 = rw (le-leb (length m) 1048576 d, h) in
-          record { answer = rw no; bytes = rw no }
+    pub room-here : length (end_to_end ks m) ≤ length old → Room out at here
+    room-here r =
+        let rest = end_to_end (drop (suc i) ks) m in
+        let all : Room old 0 (end_to_end (take i ks) m ++ (here ++ rest)) = record { fits = omega (arith, r, ap {B = ℕ} length (parts m ks i h)) } in
+        room-first here rest (room_next (end_to_end (take i ks) m) (here ++ rest) g.sofar all)
 
-      -- one text after the other, each where the one before it ended
-      module _ (h : leb (length whole) (length old) ≡ true) where
-        fits : length whole ≤ length old
-        fits = leb-true (length whole) (length old) h
+    pub on : {new : List ℕ} {r : ℕ} → Wrote out new at here r → Going m ks old (i + 1) new r (set lengths i (r - at))
+    on {r = r} w =
+        let n : r - at ≡ length here = omega (arith, w.next) in
+        rw add-one
+        (record {
+          sofar = rw (next-bytes m ks i h) (wrote (end_to_end (take i ks) m) here g.sofar w);
+          each = rw (take-suc-set lengths i (r - at) (omega (arith, g.long)), next-length m ks i h, n, g.each);
+          long = length-set lengths i (r - at) ∙ g.long;
+        })
 
-        room : Room old 0 whole
-        room = record { fits = rw zero-add fits }
+  pub ends : length ks ≤ i → length (end_to_end ks m) ≤ length old → (lengths ≡ lengths_of ks m) × (out ≡ filled old (end_to_end ks m))
+  ends h r =
+      let e : take i lengths ≡ lengths_of ks m = rw (take_all i ks h) at g.each in
+      (sym (take_all i lengths (omega (arith, g.long))) ∙ e, (at-start (end_to_end ks m) old out at r (rw (take_all i ks h) at g.sofar)).1)
 
-        pub room-1 : Domain m × Room old 0 (text k₁ m)
-        room-1 = (record { few = d }, room-first (text k₁ m) (end_to_end (k₂ ∷ k₃ ∷ []) m) room)
-
-        module _ {mid : List ℕ} {a : ℕ} (u : Wrote old mid 0 (text k₁ m) a) where
-          room-rest : Room mid a (end_to_end (k₂ ∷ k₃ ∷ []) m)
-          room-rest = room_next (text k₁ m) (end_to_end (k₂ ∷ k₃ ∷ []) m) u room
-
-          pub room-2 : Domain m × Room mid a (text k₂ m)
-          room-2 = (record { few = d }, room-first (text k₂ m) (end_to_end (k₃ ∷ []) m) room-rest)
-
-          module _ {mid₂ : List ℕ} {b : ℕ} (v : Wrote mid mid₂ a (text k₂ m) b) where
-            pub room-3 : Domain m × Room mid₂ b (text k₃ m)
-            room-3 = (record { few = d }, room-first (text k₃ m) [] (room_next (text k₂ m) (end_to_end (k₃ ∷ []) m) v room-rest))
-
-            pub three-0 : {new : List ℕ} {c : ℕ} → Wrote mid₂ new b (text k₃ m) c
-                → Breakdowns ks m old new (record { refused = 0; lengths = a ∷ (b - a) ∷ (c - b) ∷ [] })
-            three-0 w =
-                let no : three_no ks m old ≡ 0 = rw (le-leb (length m) 1048576 d, h) in
-                let s = from_start m fits (wrote_one refl u (wrote_one refl v (wrote_one refl w ended))) in
-                record { answer = rw (no, s.0); bytes = rw no s.1 }
+-- three texts that had room
+pub written-three : {n m : List ℕ} {ks : List Kind} {old out lengths : List ℕ} {i at : ℕ} → n ≡ m → length n ≤ 1048576
+    → leb (length (end_to_end ks n)) (length old) ≡ true → Going n ks old i out at lengths → length ks ≤ i
+    → Breakdowns ks m old out (record { refused = 0; lengths = lengths })
+written-three {n} {ks = ks} {old} e few fits g h =
+    let d = ends g h (leb-true (length (end_to_end ks n)) (length old) fits) in
+    rw (← e) (
+    let no : three_no ks n old ≡ 0 = rw (le-leb (length n) 1048576 few, fits) in
+    record { answer = rw (no, d.0); bytes = rw (no, d.1) }
+    )

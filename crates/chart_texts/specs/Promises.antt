@@ -1,7 +1,9 @@
 -- The promises of the calls that write one text, or three end to end: what comes back and what the lent slice holds then, in refusals too.
 -- Assumes nothing.
-use Rattle.std.specs.Prelude.{ℕ, ◌≡◌, List, [], ◌∷◌, replicate}
+use Rattle.std.specs.Prelude.{ℕ, ◌≡◌, List, [], ◌∷◌, replicate, Result, Ok, Err}
 use Rattle.number.specs.Questions.{first_no, accepted, filled, room_for, OneText}
+use Rattle.number.specs.Refusal.{refusal_number}
+use Rattle.number.specs.declared.refusal.Refusal.{Refusal}
 use Rattle.number.specs.declared.Written.{Written}
 use Rattle.rules.specs.Chart.{in_domain}
 use Rattle.rules.specs.declared.Kind.{Kind}
@@ -19,3 +21,8 @@ three_no ks m old = first_no (in_domain m ∷ room_for (end_to_end ks m) old ∷
 pub record Breakdowns (ks : List Kind) (m old new : List ℕ) (r : ThreeWritten) : Type 0 where
   pub answer : r ≡ record { refused = three_no ks m old; lengths = accepted (three_no ks m old) (lengths_of ks m) (replicate 3 0) }
   pub bytes : new ≡ accepted (three_no ks m old) (filled old (end_to_end ks m)) old
+
+-- what such a call answers in C
+abbrev pub three_written_of : Result (List ℕ) Refusal → ThreeWritten
+three_written_of (Ok lengths) = record { refused = 0; lengths = lengths }
+three_written_of (Err r) = record { refused = refusal_number r; lengths = replicate 3 0 }

@@ -1,35 +1,23 @@
-// Prints a line for each chart of a list: the counts by their own call and by the pass, each behind the refusal's number, and the refusal's number and
+// Prints a line for each chart of a list: the counts by their own call and by the pass, each after the refusal's number, and the refusal's number and
 // the length by `board_counts`. Where that accepts, the line for boards follows.
 #![tactic(auto)]
 
 mod answers;
 
 use answers::print_answers;
-use chart_list::read::next_chart;
-use chart_list::stream::read_full;
+use chart_list::charts::read_chart;
+use chart_list::stream::read_list;
+use measures::chart::MOST_MEASURES;
 use std::io;
-
-fn print_all(rt: &impl Print, list: &[u8]) -> io::Result<()> {
-    // One measure more than the domain has.
-    let mut measures = [0u32; 1048577];
-    let mut at = 0;
-    while at < list.len() {
-        let chart = next_chart(list, at, &mut measures);
-        let count = chart.measures;
-        print_answers(rt, &measures[..count])?;
-        at = chart.next;
-    }
-    Ok(())
-}
-
-// The list that is read into `space`.
-fn print_list(rt: &(impl Input + Print), space: &mut [u8]) -> io::Result<()> {
-    let length = read_full(&mut rt.reader(), space)?;
-    print_all(rt, &space[..length])
-}
+use std::io::{BufWriter, Write};
 
 fn main(rt: HostRuntime) -> io::Result<()> {
-    // Room for the whole list.
-    let mut space = [0u8; 262144];
-    print_list(&rt, &mut space)
+    let list = read_list(rt.alloc(), &mut rt.stdin(), 262144)?;
+    let mut out = BufWriter::new(rt.alloc(), rt.stdout())?;
+    for line in list.split_inclusive(|byte| *byte == b'\n') {
+        // One measure more than the domain has.
+        let measures = read_chart(rt.alloc(), line, MOST_MEASURES + 1)?;
+        print_answers(&mut out, &measures)?;
+    }
+    out.flush()
 }

@@ -14,6 +14,7 @@ use Rattle.rules.specs.declared.StreamCounts.{StreamCounts}
 use Rattle.rules.proofs.Steps.{class-0, class-1, class-2, class-3, class-4}
 use Rattle.rules.proofs.Cost.{total_runs}
 use Rattle.measures.proofs.Part.{part-within, active-length}
+use Rattle.counts.specs.Sums.{stream_measures}
 use Rattle.counts.proofs.TokenSums.{held-runs, held-most}
 
 pub by-class : (m : List ℕ) → let cs = classes m in count 1 cs + count 2 cs + count 3 cs + count 4 cs ≡ streams cs
@@ -31,16 +32,13 @@ streams-few [] = omega arith
 streams-few (zero ∷ cs) = omega (arith, streams-few cs)
 streams-few (suc c ∷ cs) = omega (arith, streams-few cs)
 
--- the stream measures, as the code adds them, and their share
-abbrev pub added : StreamCounts → ℕ
-added k = k.run16_streams + k.run20_streams + k.run24_streams + k.run32_streams
-
+-- the share, as the code takes it of the counts
 abbrev pub share_of : StreamCounts → ℕ
-share_of k = (10000 * added k) / (added k + k.sn_breaks)
+share_of k = (10000 * stream_measures k) / (stream_measures k + k.sn_breaks)
 
 -- of a chart of the domain
 pub record Known (m : List ℕ) (k : StreamCounts) : Type 0 where
-  pub sum : added k ≡ streams (classes m)
+  pub sum : stream_measures k ≡ streams (classes m)
   pub few : streams (classes m) ≤ 1048576
   pub breaks : k.sn_breaks ≤ 1048576
   pub part : share_of k ≡ share (classes m)

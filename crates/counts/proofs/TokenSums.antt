@@ -8,13 +8,15 @@ use native.Mathlib.Omega.{arith}
 use lib.Dec.{eqb, ltb}
 use lib.ListN.{length, length-drop, length-map}
 use borrow.Author.Tests.{eqb-true, ne_eqb}
+use Rattle.std.proofs.lemmas.List.{nil_from_length}
 use Rattle.rules.specs.Chart.{classes, Token, token, class, len, lead_in, from_first, keep, to_last, active, runs_from, runs, tokens}
 use Rattle.rules.specs.Chart.{class_of, tail, count, streams, wide_gaps, counts}
 use Rattle.number.proofs.Split.{split}
 use Rattle.rules.specs.Slices.{paired, total}
 use Rattle.rules.proofs.Cost.{total_runs}
 use Rattle.rules.proofs.Ends.{parts-length}
-use Rattle.counts.specs.Sums.{held, wide_of, counts_of, Summed}
+use Rattle.counts.specs.Sums.{held, wide_of, sums_of, Summed}
+use Rattle.rules.specs.declared.StreamCounts.{StreamCounts}
 use Rattle.counts.specs.declared.Sums.{Sums}
 use Rattle.measures.proofs.Part.{part-within, active-length}
 
@@ -57,10 +59,6 @@ unfolding active
 count-active c [] = refl
 count-active c (zero ∷ cs) = rw (ne_eqb (suc c) 0 (omega arith)) (count-active c cs)
 count-active c (suc d ∷ cs) = count-last c (suc d ∷ cs)
-
-pub empty : (l : List ℕ) → length l ≡ 0 → l ≡ []
-empty [] h = refl
-empty (x ∷ l) h = absurd (omega arith)
 
 -- and there is one exactly where it is not empty
 some : (cs : List ℕ) → 0 < length (active cs) → eqb (streams cs) 0 ≡ false
@@ -138,6 +136,20 @@ wide-most [] = omega arith
 wide-most (token zero n s ∷ ts) = let h = wide-most ts in split (ltb n 2) (λ e. rw e (omega arith)) (λ e. rw e (omega arith))
 wide-most (token (suc d) n s ∷ ts) = let h = wide-most ts in omega arith
 
+-- counts, from such sums and what they leave out: all gaps of 2 or more, and the measures before and after the active part
+abbrev pub counts_of : Sums → ℕ → ℕ → ℕ → StreamCounts
+counts_of s breaks lead tail =
+    record {
+      run16_streams = s.run16;
+      run20_streams = s.run20;
+      run24_streams = s.run24;
+      run32_streams = s.run32;
+      total_breaks = breaks;
+      sn_breaks = s.breaks;
+      lead = lead;
+      tail = tail;
+    }
+
 -- from the sums over the active part's tokens to the counts
 module _ {m : List ℕ} {lead : ℕ} {part : List ℕ} {s : Sums} (g : Summed m lead part s) where
   abbrev cs : List ℕ
@@ -158,18 +170,18 @@ module _ {m : List ℕ} {lead : ℕ} {part : List ℕ} {s : Sums} (g : Summed m 
   tail-number = let e = parts-length cs in omega (arith, e, length-map m class_of, g.led.number, part-long)
 
   -- the lead-in and the tail are gaps
-  total-wide : wide_gaps (runs cs) ≡ wide_gaps (runs (active cs)) + (wide_of (lead_in cs) + wide_of (tail cs))
+  total-wide : wide_gaps (runs cs) ≡ wide_gaps (runs (active cs)) + wide_of (lead_in cs) + wide_of (tail cs)
   total-wide = omega (arith, lead-wide cs, tail-wide cs)
 
-  pub counted : 0 < length part → (e f t : ℕ) → e ≡ wide_of lead → f ≡ wide_of t → t ≡ length m - lead - length part
-      → counts_of s (s.wide + (e + f)) lead t ≡ counts (classes m)
+  pub counted : 0 < length part → (e f : ℕ) → let t = length m - lead - length part in
+      e ≡ wide_of lead → f ≡ wide_of t → counts_of s (s.wide + e + f) lead t ≡ counts (classes m)
   unfolding counts tokens
-  counted h e f t ee ef et =
+  counted h e f ee ef =
       rw (
         g.held,
         ee,
         ef,
-        et ∙ tail-number,
+        tail-number,
         g.led.number,
         ← total-wide,
         some cs (rw part-long h),
@@ -184,12 +196,13 @@ module _ {m : List ℕ} {lead : ℕ} {part : List ℕ} {s : Sums} (g : Summed m 
         count-active 3 cs,
       )
 
-  pub uncounted : length part ≡ 0 → (t : ℕ) → t ≡ length m - lead - length part → counts_of s 0 lead t ≡ counts (classes m)
-  unfolding counts tokens
-  uncounted h t et =
-      let e : active cs ≡ [] = empty (active cs) (part-long ∙ h) in
+  -- without a stream measure all measures are in the lead-in
+  pub uncounted : length part ≡ 0 → counts_of (sums_of []) 0 lead (length m - lead - length part) ≡ counts (classes m)
+  unfolding counts
+  uncounted h =
+      let e : active cs ≡ [] = nil_from_length (active cs) (part-long ∙ h) in
       let z : (c : ℕ) → count (suc c) cs ≡ 0 = λ c. sym (count-active c cs) ∙ ap (count (suc c)) e in
-      rw (g.held, et ∙ tail-number, g.led.number, z 0, z 1, z 2, z 3, none cs (ap length e), e)
+      rw (tail-number, g.led.number, z 0, z 1, z 2, z 3, none cs (ap length e), e)
 
 -- ---- no more runs than measures
 

@@ -16,19 +16,9 @@ abbrev pub sums_of : List Token → Sums
 sums_of ts =
     record { run16 = held 1 ts; run20 = held 2 ts; run24 = held 3 ts; run32 = held 4 ts; breaks = held 0 ts; wide = wide_gaps ts }
 
--- counts, from such sums and what they leave out: all gaps of 2 or more, and the measures before and after the active part
-abbrev pub counts_of : Sums → ℕ → ℕ → ℕ → StreamCounts
-counts_of s breaks lead tail =
-    record {
-      run16_streams = s.run16;
-      run20_streams = s.run20;
-      run24_streams = s.run24;
-      run32_streams = s.run32;
-      total_breaks = breaks;
-      sn_breaks = s.breaks;
-      lead = lead;
-      tail = tail;
-    }
+-- the stream measures that some counts hold
+abbrev pub stream_measures : StreamCounts → ℕ
+stream_measures k = k.run16_streams + k.run20_streams + k.run24_streams + k.run32_streams
 
 -- what a gap of n adds to the gaps of 2 or more
 abbrev pub wide_of : ℕ → ℕ
@@ -38,10 +28,6 @@ wide_of n = cond (ltb n 2) 0 n
 pub record Wide (n r : ℕ) : Type 0 where
   pub gap : r ≡ wide_of n
   pub low : r ≤ n
-
--- v, or w where x is a stream measure behind a break p that stands alone, behind a stream measure q
-abbrev pub alone : ℕ → ℕ → ℕ → ℕ → ℕ → ℕ
-alone q p x v w = cond (ltb x 16) v (cond (ltb p 16) (cond (ltb q 16) v w) v)
 
 -- the last of c and cs is a stream measure
 abbrev pub Ends : ℕ → List ℕ → Type 0

@@ -4,7 +4,7 @@ use Prim.Native.Nat.{ℕ, zero, suc, ◌+◌, ◌*◌, ◌≤◌, ◌<◌}
 use mathlib.Core.Path.{◌≡◌, sym, ap, ◌∙◌}
 use mathlib.Core.List.{List, [], ◌∷◌, ◌++◌, append_assoc}
 use native.Mathlib.Omega.{arith}
-use lib.Dec.{ltb, eqb}
+use lib.Dec.{eqb}
 use lib.ListN.{length, take, drop, get_or, length-append, length-map}
 use lib.Seq.{take_at, drop_at, drop-drop}
 use Rattle.number.specs.Digits.{digits, padded}
@@ -13,10 +13,10 @@ use Rattle.number.proofs.Padded.{padded-length}
 use Rattle.number.proofs.Each.{Each, none, ◌&◌}
 use Rattle.number.proofs.Split.{split}
 use Rattle.rules.specs.Bytes.{bytes}
-use Rattle.rules.specs.Chart.{class_of, classes, lead_in, active, tail, Token, token, runs, count, streams, wide_gaps, counts, count_numbers}
-use Rattle.rules.specs.Slices.{total}
+use Rattle.rules.specs.Chart.{class_of, classes, lead_in, active, tail, runs, count, streams, counts, count_numbers}
 use Rattle.rules.proofs.Cost.{total_runs, active-short}
 use Rattle.rules.proofs.Ends.{parts-length}
+use Rattle.counts.proofs.TokenSums.{wide-most}
 use Rattle.counts_line.specs.CountsLine.{line, parted_by_spaces, counts_line, board_line}
 use Rattle.counts_line.specs.Promises.{board_text}
 
@@ -24,14 +24,9 @@ count-few : (c : ℕ) (cs : List ℕ) → count c cs ≤ length cs
 count-few c [] = omega arith
 count-few c (d ∷ cs) = split (eqb c d) (λ e. rw e (omega (arith, count-few c cs))) (λ e. rw e (omega (arith, count-few c cs)))
 
-wide-few : (ts : List Token) → wide_gaps ts ≤ total ts
-wide-few [] = omega arith
-wide-few (token zero n s ∷ ts) = split (ltb n 2) (λ e. rw e (omega (arith, wide-few ts))) (λ e. rw e (omega (arith, wide-few ts)))
-wide-few (token (suc c) n s ∷ ts) = omega (arith, wide-few ts)
-
 breaks-few : (cs : List ℕ) → (counts cs).total_breaks ≤ length cs
 unfolding counts
-breaks-few cs = split (eqb (streams cs) 0) (λ e. rw e (omega arith)) (λ e. rw e (omega (arith, wide-few (runs cs), total_runs cs)))
+breaks-few cs = split (eqb (streams cs) 0) (λ e. rw e (omega arith)) (λ e. rw e (omega (arith, wide-most (runs cs), total_runs cs)))
 
 module _ (cs : List ℕ) where
   lead-few : lead_in cs ≤ length cs

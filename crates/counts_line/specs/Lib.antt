@@ -1,4 +1,3 @@
 pub mod CountsLine
 pub mod Promises
-pub mod Steps
 pub mod Laws

@@ -4,18 +4,26 @@
 ghost use Rattle.std.specs.Prelude.{◌≤◌, ◌≡◌, ◌++◌};
 ghost use Rattle.number.specs.Digits.{padded};
 ghost use Rattle.number.specs.Place.{Room, Wrote};
+ghost use Rattle.number.specs.Refusal.{written_of};
 ghost use Rattle.rules.specs.Bytes.{bytes};
 ghost use Rattle.rules.specs.Chart.{count_numbers};
 ghost use Rattle.counts_line.specs.CountsLine.{line, parted_by_spaces};
 ghost use Rattle.counts_line.specs.Promises.{BoardCounts};
-ghost use Rattle.counts_line.specs.Steps.{NumbersRoom};
 
 use counts::chart_counts;
-use number::{Written, put_u64};
+use measures::chart::Chart;
+use number::put_u64;
+use number::refusal::Refusal;
 use rules::StreamCounts;
 use text_buffer::put::put_bytes;
 
-// A number behind a space.
+// A board's line has so many bytes, whatever the chart of the domain.
+const BOARD_LINE: usize = 64;
+
+// Each of its numbers has this width.
+const BOARD_WIDTH: u32 = 7;
+
+// A number after a space.
 fn put_spaced(out: &mut [u8], at: usize, n: u32, width: u32) -> usize
     requires { (width ≤ 20) × Room out.old at (bytes " " ++ padded width n) }
     ensures { Wrote out.old out.new at (bytes " " ++ padded width n) result }
@@ -26,14 +34,15 @@ fn put_spaced(out: &mut [u8], at: usize, n: u32, width: u32) -> usize
 
 // Numbers parted by one space.
 fn put_numbers(out: &mut [u8], at: usize, numbers: &[u32], width: u32) -> usize
-    requires { NumbersRoom out.old at width numbers.now }
+    requires { (width ≤ 20) × Room out.old at (parted_by_spaces width numbers.now) }
     ensures { Wrote out.old out.new at (parted_by_spaces width numbers.now) result }
 {
-    let mut place = put_u64(out, at, numbers[0] as u64, width);
-    let mut i: usize = 1;
-    while i < numbers.len() {
-        place = put_spaced(out, place, numbers[i], width);
-        i += 1;
+    let [first, rest @ ..] = numbers else {
+        return at;
+    };
+    let mut place = put_u64(out, at, *first as u64, width);
+    for n in rest {
+        place = put_spaced(out, place, *n, width);
     }
     place
 }
@@ -64,23 +73,13 @@ pub fn put_counts(out: &mut [u8], at: usize, counts: StreamCounts, width: u32) -
     put_bytes(out, end, b"\n")
 }
 
-// The counts line for boards, each number at width 7, ended by 0A: refused with 1 outside the domain, then with 4 where `out` is shorter than the line,
-// which has 64 bytes whatever the chart of the domain.
-pub fn board_counts(m: &[u32], out: &mut [u8]) -> Written
-    ensures { BoardCounts m.now out.old out.new result }
+// The counts line for boards, ended by 0A: refused with 1 outside the domain, then with 4 where `out` is shorter than the line.
+pub fn board_counts(m: &[u32], out: &mut [u8]) -> Result<usize, Refusal>
+    ensures { BoardCounts m.now out.old out.new (written_of result) }
 {
-    if m.len() > 1048576 {
-        return Written {
-            refused: 1,
-            length: 0,
-        };
+    let chart = Chart::new(m)?;
+    if out.len() < BOARD_LINE {
+        return Err(Refusal::TextTooShort);
     }
-    if out.len() < 64 {
-        return Written {
-            refused: 4,
-            length: 0,
-        };
-    }
-    let length = put_counts(out, 0, chart_counts(m), 7);
-    Written { refused: 0, length }
+    Ok(put_counts(out, 0, chart_counts(chart), BOARD_WIDTH))
 }

@@ -3,13 +3,12 @@
 use Prim.Native.Nat.{ℕ}
 use mathlib.Core.Path.{◌≡◌, refl, sym, ap, ◌∙◌}
 use mathlib.Core.List.{List, [], ◌∷◌}
+use Rattle.std.proofs.Common.{Option, Some, None}
 use Rattle.number.specs.Questions.{first_no, room_for}
 use Rattle.rules.specs.Chart.{in_domain, classes}
 use Rattle.rules.specs.declared.Kind.TheVariants.{Standard as standard}
 use Rattle.rules.specs.Calls.{levels, first_within, label_choice}
 use Rattle.rules.specs.declared.StreamBreakdownLevel.{StreamBreakdownLevel}
-use Rattle.rules.specs.declared.LabelChoice.{LabelChoice}
-use Rattle.rules.specs.declared.LabelChoice.TheVariants.{Fits, NoneFits}
 use Rattle.rules.proofs.Demand.{same_length, same_text}
 use Rattle.label.specs.Promises.{label_text, some_fits, label_no, Label}
 use Rattle.label.specs.declared.LabelWritten.{LabelWritten}
@@ -29,9 +28,9 @@ module _ (a b : List ℕ) (e : classes a ≡ classes b) where
     same-shown : label_text (label_choice width a) a ≡ label_text (label_choice width b) b
     same-shown = rw same-choice (go (label_choice width b))
       where
-        go : (x : LabelChoice) → label_text x a ≡ label_text x b
-        go (Fits l) = same_text (standard l) a b e
-        go NoneFits = refl
+        go : (x : Option StreamBreakdownLevel) → label_text x a ≡ label_text x b
+        go (Some l) = same_text (standard l) a b e
+        go None = refl
 
     same-no : (old : List ℕ) → label_no width a old ≡ label_no width b old
     same-no old =

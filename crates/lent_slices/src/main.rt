@@ -3,207 +3,126 @@
 #![tactic(auto)]
 
 mod call;
-mod line;
 mod pass;
 
-use call::{Call, print_call};
-use chart_list::line::{put_bytes, put_number};
+use call::{Label, One, Three, print_call};
+use chart_list::charts::read_chart;
+use chart_texts::single::{generate_breakdown, stream_breakdown};
+use chart_texts::three::{generate_breakdowns, stream_breakdowns};
+use counts_line::board_counts;
+use label::label;
+use measures::chart::MOST_MEASURES;
+use number::push_u64;
 use pass::print_passes;
 use rules::{BreakdownMode, RunDensity, StreamBreakdownLevel};
+use run_symbol::format_run_symbol;
 use std::io;
 
-fn print_numbers(rt: &impl Print) -> io::Result<()> {
-    let none = [0u32; 0];
-    print_call(rt, b"push_u64 0", Call::Number(0, 0), &none)?;
-    print_call(rt, b"push_u64 9", Call::Number(9, 0), &none)?;
-    print_call(rt, b"push_u64 10", Call::Number(10, 0), &none)?;
-    print_call(
-        rt,
-        b"push_u64 18446744073709551615",
-        Call::Number(u64::MAX, 0),
-        &none,
-    )
+fn print_numbers(rt: &(impl Print + AllocGlobal)) -> io::Result<()> {
+    for n in [0, 9, 10, u64::MAX] {
+        print_call(rt, format_args!("push_u64 {n}"), |text| {
+            One(push_u64(text, n, 0))
+        })?;
+    }
+    Ok(())
 }
 
-fn print_at_width(rt: &impl Print, n: u64, width: u32) -> io::Result<()> {
-    let none = [0u32; 0];
-    let mut name = [0u8; 64];
-    let call_end = put_bytes(&mut name, 0, b"push_u64 ");
-    let number_end = put_number(&mut name, call_end, n);
-    let word_end = put_bytes(&mut name, number_end, b" width ");
-    let end = put_number(&mut name, word_end, width as u64);
-    print_call(rt, &name[..end], Call::Number(n, width), &none)
+// The last two widths are refused with 20.
+fn print_padded(rt: &(impl Print + AllocGlobal)) -> io::Result<()> {
+    for n in [0, 9, 10, 1234567, u64::MAX] {
+        for width in [1, 2, 7, 8, 19, 20, 21, u32::MAX] {
+            print_call(rt, format_args!("push_u64 {n} width {width}"), |text| {
+                One(push_u64(text, n, width))
+            })?;
+        }
+    }
+    Ok(())
 }
 
-// The last two are refused with 20.
-fn print_at_widths(rt: &impl Print, n: u64) -> io::Result<()> {
-    print_at_width(rt, n, 1)?;
-    print_at_width(rt, n, 2)?;
-    print_at_width(rt, n, 7)?;
-    print_at_width(rt, n, 8)?;
-    print_at_width(rt, n, 19)?;
-    print_at_width(rt, n, 20)?;
-    print_at_width(rt, n, 21)?;
-    print_at_width(rt, n, u32::MAX)
+fn print_symbol(
+    rt: &(impl Print + AllocGlobal),
+    class: RunDensity,
+    length: u64,
+    star: bool,
+) -> io::Result<()> {
+    let mark = if star { "*" } else { "" };
+    let name = format_args!("format_run_symbol {class:?} {length}{mark}");
+    print_call(rt, name, |text| {
+        One(format_run_symbol(class, length, star, text))
+    })
 }
 
-fn print_padded(rt: &impl Print) -> io::Result<()> {
-    print_at_widths(rt, 0)?;
-    print_at_widths(rt, 9)?;
-    print_at_widths(rt, 10)?;
-    print_at_widths(rt, 1234567)?;
-    print_at_widths(rt, u64::MAX)
+fn print_symbols(rt: &(impl Print + AllocGlobal)) -> io::Result<()> {
+    print_symbol(rt, RunDensity::Run16, 7, false)?;
+    print_symbol(rt, RunDensity::Run16, 7, true)?;
+    print_symbol(rt, RunDensity::Run20, 0, false)?;
+    print_symbol(rt, RunDensity::Run24, 12, true)?;
+    print_symbol(rt, RunDensity::Run32, 100, true)?;
+    print_symbol(rt, RunDensity::Break, 7, false)
 }
 
-fn print_symbols(rt: &impl Print) -> io::Result<()> {
-    let none = [0u32; 0];
-    print_call(
-        rt,
-        b"format_run_symbol Run16 7",
-        Call::Symbol(RunDensity::Run16, 7),
-        &none,
-    )?;
-    print_call(
-        rt,
-        b"format_run_symbol Run16 7*",
-        Call::Starred(RunDensity::Run16, 7),
-        &none,
-    )?;
-    print_call(
-        rt,
-        b"format_run_symbol Run20 0",
-        Call::Symbol(RunDensity::Run20, 0),
-        &none,
-    )?;
-    print_call(
-        rt,
-        b"format_run_symbol Run24 12*",
-        Call::Starred(RunDensity::Run24, 12),
-        &none,
-    )?;
-    print_call(
-        rt,
-        b"format_run_symbol Run32 100*",
-        Call::Starred(RunDensity::Run32, 100),
-        &none,
-    )?;
-    print_call(
-        rt,
-        b"format_run_symbol Break 7",
-        Call::Symbol(RunDensity::Break, 7),
-        &none,
-    )
+fn print_texts(rt: &(impl Print + AllocGlobal), m: &[u32]) -> io::Result<()> {
+    for (mode, name) in [
+        (BreakdownMode::Detailed, "detailed"),
+        (BreakdownMode::Partial, "partial"),
+        (BreakdownMode::Simplified, "simplified"),
+    ] {
+        print_call(rt, format_args!("generate_breakdown {name}"), |text| {
+            One(generate_breakdown(m, mode, text))
+        })?;
+    }
+    for (level, name) in [
+        (StreamBreakdownLevel::Detailed, "detailed"),
+        (StreamBreakdownLevel::Partial, "partial"),
+        (StreamBreakdownLevel::Simple, "simple"),
+        (StreamBreakdownLevel::Total, "total"),
+    ] {
+        print_call(rt, format_args!("stream_breakdown {name}"), |text| {
+            One(stream_breakdown(m, level, text))
+        })?;
+    }
+    print_call(rt, "generate_breakdowns", |text| {
+        Three(generate_breakdowns(m, text))
+    })?;
+    print_call(rt, "stream_breakdowns", |text| {
+        Three(stream_breakdowns(m, text))
+    })
 }
 
-fn print_sn_texts(rt: &impl Print, m: &[u32]) -> io::Result<()> {
-    print_call(
-        rt,
-        b"generate_breakdown detailed",
-        Call::Sn(BreakdownMode::Detailed),
-        m,
-    )?;
-    print_call(
-        rt,
-        b"generate_breakdown partial",
-        Call::Sn(BreakdownMode::Partial),
-        m,
-    )?;
-    print_call(
-        rt,
-        b"generate_breakdown simplified",
-        Call::Sn(BreakdownMode::Simplified),
-        m,
-    )
+fn print_labels(rt: &(impl Print + AllocGlobal), m: &[u32]) -> io::Result<()> {
+    for width in [0, 2, 4, 5, 8, 100] {
+        print_call(rt, format_args!("label {width}"), |text| {
+            Label(label(m, width, text))
+        })?;
+    }
+    Ok(())
 }
 
-fn print_standard_texts(rt: &impl Print, m: &[u32]) -> io::Result<()> {
-    print_call(
-        rt,
-        b"stream_breakdown detailed",
-        Call::Standard(StreamBreakdownLevel::Detailed),
-        m,
-    )?;
-    print_call(
-        rt,
-        b"stream_breakdown partial",
-        Call::Standard(StreamBreakdownLevel::Partial),
-        m,
-    )?;
-    print_call(
-        rt,
-        b"stream_breakdown simple",
-        Call::Standard(StreamBreakdownLevel::Simple),
-        m,
-    )?;
-    print_call(
-        rt,
-        b"stream_breakdown total",
-        Call::Standard(StreamBreakdownLevel::Total),
-        m,
-    )
-}
-
-fn print_texts(rt: &impl Print, m: &[u32]) -> io::Result<()> {
-    print_sn_texts(rt, m)?;
-    print_standard_texts(rt, m)?;
-    print_call(rt, b"generate_breakdowns", Call::SnTexts, m)?;
-    print_call(rt, b"stream_breakdowns", Call::StandardTexts, m)
-}
-
-fn print_labels(rt: &impl Print, m: &[u32]) -> io::Result<()> {
-    print_call(rt, b"label 0", Call::Label(0), m)?;
-    print_call(rt, b"label 2", Call::Label(2), m)?;
-    print_call(rt, b"label 4", Call::Label(4), m)?;
-    print_call(rt, b"label 5", Call::Label(5), m)?;
-    print_call(rt, b"label 8", Call::Label(8), m)?;
-    print_call(rt, b"label 100", Call::Label(100), m)
-}
-
-fn print_chart(rt: &impl Print, line: &[u8], m: &[u32]) -> io::Result<()> {
-    rt.write_all(line)?;
+// The lines of the chart that a line of a list says.
+fn print_chart(rt: &(impl Print + AllocGlobal), line: &str) -> io::Result<()> {
+    println!(rt; "chart {line}")?;
+    // One measure more than the domain has.
+    let measures = read_chart(rt.alloc(), line.as_bytes(), MOST_MEASURES + 1)?;
+    let m = measures.as_slice();
     print_texts(rt, m)?;
     print_labels(rt, m)?;
-    print_call(rt, b"board_counts", Call::Board, m)?;
+    print_call(rt, "board_counts", |text| One(board_counts(m, text)))?;
     print_passes(rt, m)
-}
-
-// Charts with a lead-in and a tail.
-fn print_with_ends(rt: &impl Print) -> io::Result<()> {
-    print_chart(
-        rt,
-        b"chart 0 0 0 16 0 20 0 0\n",
-        &[0, 0, 0, 16, 0, 20, 0, 0],
-    )?;
-    print_chart(
-        rt,
-        b"chart 15x12 32 0\n",
-        &[15, 15, 15, 15, 15, 15, 15, 15, 15, 15, 15, 15, 32, 0],
-    )
-}
-
-// One measure more than the domain has.
-fn print_too_many(rt: &impl Print, m: &[u32; 1048577]) -> io::Result<()> {
-    print_chart(rt, b"chart 16x1048577\n", m)
 }
 
 fn main(rt: HostRuntime) -> io::Result<()> {
     print_numbers(&rt)?;
     print_padded(&rt)?;
     print_symbols(&rt)?;
-    print_chart(&rt, b"chart 16 0 16\n", &[16, 0, 16])?;
-    print_chart(&rt, b"chart 32 0 0 16\n", &[32, 0, 0, 16])?;
-    print_chart(
-        &rt,
-        b"chart 16 16 0 20 20 0 0 0 16\n",
-        &[16, 16, 0, 20, 20, 0, 0, 0, 16],
-    )?;
-    print_chart(
-        &rt,
-        b"chart 16 0 0 16 0 0 16 0 0 16 0 0 16\n",
-        &[16, 0, 0, 16, 0, 0, 16, 0, 0, 16, 0, 0, 16],
-    )?;
-    print_chart(&rt, b"chart 0 15\n", &[0, 15])?;
-    print_with_ends(&rt)?;
-    print_chart(&rt, b"chart 16x1000\n", &[16; 1000])?;
-    print_too_many(&rt, &[16; 1048577])
+    print_chart(&rt, "16 0 16")?;
+    print_chart(&rt, "32 0 0 16")?;
+    print_chart(&rt, "16 16 0 20 20 0 0 0 16")?;
+    print_chart(&rt, "16 0 0 16 0 0 16 0 0 16 0 0 16")?;
+    print_chart(&rt, "0 15")?;
+    // With a lead-in and a tail.
+    print_chart(&rt, "0 0 0 16 0 20 0 0")?;
+    print_chart(&rt, "15x12 32 0")?;
+    print_chart(&rt, "16x1000")?;
+    // One measure more than the domain has.
+    print_chart(&rt, "16x1048577")
 }

@@ -2,12 +2,16 @@
 -- Assumes nothing.
 use Rattle.std.proofs.Common.{◌≡◌, ℕ, zero, suc, ◌-◌, ◌<◌, ◌≤◌, ltb, List, [], ◌∷◌, ◌++◌, length, get_or, take, drop, sym, refl, ap, ◌∙◌}
 use Rattle.std.proofs.Common.{le_of_suc-le-suc, not-suc-le-zero, sub-one, arith, length-drop, length-take, length-take-le, take_all, take-suc}
-use Rattle.std.proofs.Common.{le-ltb}
+use Rattle.std.proofs.lemmas.List.{get_or-drop}
+use Rattle.std.proofs.Common.{le-ltb, ltb-true, ltb-false, ◌+◌}
 use lib.ListN.{length-map, get_or-map}
 use Rattle.rules.specs.Chart.{class_of, classes, lead_in, from_first, keep, to_last, active, active_part, runs, tokens}
 use Rattle.rules.proofs.Steps.{class-0, map-drop, active-part}
 use Rattle.number.proofs.Split.{split}
-use Rattle.measures.specs.Active.{LedIn, Ended}
+use Rattle.std.specs.List.{AllWithin, HoldsAt}
+use Rattle.std.specs.Prelude.{Option, Some, None, MatchOption}
+use Rattle.std.specs.Option.{unwrap_or}
+use Rattle.measures.specs.Active.{LedIn, Ended, Stretch}
 
 -- a density of 16 and more is of no break class
 pub stream-class : (d : ℕ) → 16 ≤ d → (c : ℕ) × (class_of d ≡ suc c)
@@ -33,6 +37,28 @@ lead (d ∷ m) (suc r) h below at =
 
 pub led-in : (m : List ℕ) (r : ℕ) → r ≤ length m → ((i : ℕ) → i < r → get_or m i 0 < 16) → (r < length m → 16 ≤ get_or m r 0) → LedIn m r
 led-in m r h below at = record { number = lead m r h below at; within = h }
+
+-- the same, s breaks being known, by the first stream measure after them
+module _ (m : List ℕ) (s : ℕ) (p : Stretch m 0 0 15 s) where
+  breaks : (n : ℕ) → AllWithin (λ d. d < 16) (drop s m) 0 n → (i : ℕ) → i < s + n → get_or m i 0 < 16
+  breaks n w i h =
+      split (ltb i s) (λ e. omega (arith, (p.each i (omega arith) (ltb-true i s e)).1))
+      (λ e.
+      let g : s ≤ i = ltb-false i s e in
+      let back : s + (i - s) ≡ i = omega arith in
+      let at : get_or (drop s m) (i - s) 0 ≡ get_or m i 0 = get_or-drop s m (i - s) 0 ∙ rw back in
+      rw (← at) (w (i - s) 0 (omega arith) (omega arith)))
+
+  pub led-after : (r : Option ℕ)
+      → MatchOption r (AllWithin (λ d. d < 16) (drop s m) 0 (length (drop s m)))
+      (λ i. (i < length (drop s m)) × HoldsAt (λ d. 16 ≤ d) (drop s m) i × AllWithin (λ d. d < 16) (drop s m) 0 i)
+      → LedIn m (s + unwrap_or r (length (drop s m)))
+  led-after None q =
+      let all : s + length (drop s m) ≡ length m = omega (arith, length-drop s m, p.within) in
+      led-in m _ (omega arith) (breaks (length (drop s m)) q) (λ h. absurd (omega arith))
+  led-after (Some i) q =
+      let inside : s + i < length m = omega (arith, length-drop s m, q.0) in
+      led-in m _ (omega arith) (breaks i q.2) (λ h. rw get_or-drop at (q.1 0))
 
 -- a break at the end goes
 last-break : (cs : List ℕ) → to_last (cs ++ (0 ∷ [])) ≡ to_last cs
@@ -94,11 +120,18 @@ unfolding active
 active_rest m = rw (map-drop, first-drop)
 
 -- what is left behind the first a measures, as a part `&m[a..]` has it
-abbrev rest : List ℕ → ℕ → List ℕ
+abbrev pub rest : List ℕ → ℕ → List ℕ
 rest m a = take (length m - a) (drop a m)
 
-rest-drop : (m : List ℕ) (a : ℕ) → rest m a ≡ drop a m
+pub rest-drop : (m : List ℕ) (a : ℕ) → rest m a ≡ drop a m
 rest-drop m a = take_all (length m - a) (drop a m) (simp length-drop (omega arith))
+
+-- a measure of it, and how many there are
+pub rest-place : (m : List ℕ) (a i : ℕ) → get_or (rest m a) i 0 ≡ get_or m (a + i) 0
+rest-place m a i = rw rest-drop (get_or-drop a m i 0)
+
+pub rest-length : (m : List ℕ) (a : ℕ) → length (rest m a) ≡ length m - a
+rest-length m a = rw rest-drop (length-drop a m)
 
 -- its measures up to the last stream measure are the active part
 pub behind : (m : List ℕ) (a n : ℕ) → LedIn m a → Ended (rest m a) n → take n (rest m a) ≡ active_part m

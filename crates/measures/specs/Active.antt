@@ -3,11 +3,6 @@
 use Rattle.std.specs.Prelude.{◌≡◌, ℕ, ◌+◌, ◌^◌, ◌<◌, ◌≤◌, List, length, slice_index}
 use Rattle.rules.specs.Chart.{classes, lead_in, to_last}
 
--- a place with n measures, and bounds that fit a u32
-pub record Block (m : List ℕ) (i n lo more : ℕ) : Type 0 where
-  pub within : i + n ≤ length m
-  pub fit : lo + more < 2 ^ 32
-
 -- a place of the chart, its end included, and bounds that fit a u32
 pub record SkipAsked (m : List ℕ) (from lo more : ℕ) : Type 0 where
   pub within : from ≤ length m

@@ -1,26 +1,18 @@
 // Active part of a chart.
-ghost use Rattle.std.specs.Prelude.{◌≡◌, ◌+◌, true};
+ghost use Rattle.std.specs.Prelude.{◌≡◌, ◌+◌, ◌<◌, ◌^◌, true, length};
 ghost use Rattle.rules.specs.Chart.{active_part};
-ghost use Rattle.measures.specs.Active.{Block, SkipAsked, Stretch, LedIn, Ended};
+ghost use Rattle.measures.specs.Active.{SkipAsked, Stretch, LedIn, Ended};
 
-// Are the four measures from `i` on densities of `lo` to `lo + more`?
-fn four(m: &[u32], i: usize, lo: u32, more: u32) -> bool
-    requires { Block m.now i 4 lo more }
-    ensures { result ≡ true → Stretch m.now i lo more (i + 4) }
+// Are the measures of a block densities of `lo` to `lo + more`? All are looked at: so the compiler does many at a time.
+fn all_within(block: &[u32], lo: u32, more: u32) -> bool
+    requires { lo + more < 2 ^ 32 }
+    ensures { result ≡ true → Stretch block.now 0 lo more (length block.now) }
 {
-    let a = std::num::wrapping_sub_u32(m[i], lo);
-    let b = std::num::wrapping_sub_u32(m[i + 1], lo);
-    let c = std::num::wrapping_sub_u32(m[i + 2], lo);
-    let d = std::num::wrapping_sub_u32(m[i + 3], lo);
-    (a <= more) & (b <= more) & (c <= more) & (d <= more)
-}
-
-// Are the eight?
-fn eight(m: &[u32], i: usize, lo: u32, more: u32) -> bool
-    requires { Block m.now i 8 lo more }
-    ensures { result ≡ true → Stretch m.now i lo more (i + 8) }
-{
-    four(m, i, lo, more) & four(m, i + 4, lo, more)
+    let mut all = true;
+    for d in block {
+        all &= d.wrapping_sub(lo) <= more;
+    }
+    all
 }
 
 // On from `from`, eight measures at a time, while all eight are densities of `lo` to `lo + more`.
@@ -29,8 +21,8 @@ pub fn skip(m: &[u32], from: usize, lo: u32, more: u32) -> usize
     ensures { Stretch m.now from lo more result }
 {
     let mut i = from;
-    while i + 8 <= m.len() {
-        if !eight(m, i, lo, more) {
+    for block in m[from..].chunks_exact(8) {
+        if !all_within(block, lo, more) {
             return i;
         }
         i += 8;
@@ -42,28 +34,21 @@ pub fn skip(m: &[u32], from: usize, lo: u32, more: u32) -> usize
 pub fn lead_in(m: &[u32]) -> usize
     ensures { LedIn m.now result }
 {
-    let mut i = skip(m, 0, 0, 15);
-    while i < m.len() {
-        if m[i] >= 16 {
-            return i;
-        }
-        i += 1;
-    }
-    i
+    let skipped = skip(m, 0, 0, 15);
+    let rest = &m[skipped..];
+    skipped + rest.iter().position(|d| *d >= 16).unwrap_or(rest.len())
 }
 
 // How many measures there are up to the last stream measure.
 fn to_last(m: &[u32]) -> usize
     ensures { Ended m.now result }
 {
-    let mut e = m.len();
-    while e > 0 {
-        if m[e - 1] >= 16 {
-            return e;
+    for last in (0..m.len()).rev() {
+        if m[last] >= 16 {
+            return last + 1;
         }
-        e -= 1;
     }
-    e
+    0
 }
 
 // The active part, of a chart whose lead-in is known.

@@ -26,11 +26,5 @@ pub fn categorize_measure_density(d: u32) -> RunDensity
 pub fn class_of(d: u32) -> u8
     ensures { result ≡ class_of d }
 {
-    match categorize_measure_density(d) {
-        RunDensity::Break => 0,
-        RunDensity::Run16 => 1,
-        RunDensity::Run20 => 2,
-        RunDensity::Run24 => 3,
-        RunDensity::Run32 => 4,
-    }
+    u8::from(categorize_measure_density(d))
 }

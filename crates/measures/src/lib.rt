@@ -2,5 +2,6 @@
 #![tactic(auto)]
 
 pub mod active;
+pub mod chart;
 pub mod class;
 pub mod tokens;

@@ -5,6 +5,7 @@ ghost use Rattle.rules.specs.Calls.{step_at, admitted};
 ghost use Rattle.rules.specs.Slices.{leading};
 ghost use Rattle.measures.specs.Tokens.{MeasurePlace};
 
+use crate::chart::MOST_MEASURES;
 use crate::class::class_of;
 use rules::ViewToken;
 
@@ -13,21 +14,19 @@ fn run_end(m: &[u32], at: usize, class: u8) -> usize
     requires { MeasurePlace m.now at }
     ensures { result ≡ at + leading class (classes (drop at m.now)) }
 {
-    let mut i = at;
-    while i < m.len() {
-        if class_of(m[i]) != class {
-            return i;
+    for (n, d) in m[at..].iter().enumerate() {
+        if class_of(*d) != class {
+            return at + n;
         }
-        i += 1;
     }
-    i
+    m.len()
 }
 
 // The token that begins at the place `at`; ended at the chart's end and beyond it, and outside the domain.
 pub fn token_at(m: &[u32], at: usize) -> ViewToken
     ensures { result ≡ step_at 0 (drop at (admitted m.now)) }
 {
-    if m.len() > 1048576 || m.len() <= at {
+    if m.len() > MOST_MEASURES || m.len() <= at {
         return ViewToken {
             ended: true,
             class: 0,

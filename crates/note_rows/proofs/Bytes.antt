@@ -1,44 +1,14 @@
 -- The bytes of a row, and four of them told by numbers. Nothing here speaks of code.
 -- Assumes nothing.
-use Prim.Native.Nat.{ℕ, zero, suc, ◌+◌, ◌≤◌, ◌<◌}
-use mathlib.Core.Path.{◌≡◌, refl, sym, ◌∙◌}
+use Prim.Native.Nat.{ℕ, ◌+◌, ◌≤◌}
+use mathlib.Core.Path.{◌≡◌, refl, sym}
 use mathlib.Core.Bool.{Bool, true, false, cond, not, ◌&&◌, ◌||◌}
-use mathlib.Core.List.{List, [], ◌∷◌, ◌++◌}
+use mathlib.Core.List.{[], ◌∷◌}
 use native.Mathlib.Omega.{arith}
-use lib.Dec.{eqb}
-use borrow.Author.Tests.{eqb-false, ne_eqb}
+use Rattle.std.specs.Prelude.{Some, None}
 use Rattle.number.proofs.Split.{split}
 use Rattle.note_rows.specs.NoteRows.{one_of, some_of, row_bytes, note_bytes, is_row, note}
 use Rattle.note_rows.specs.Steps.{Told, row_of}
-
-pub yes : {t : Bool} → t ≡ true → Told t 1
-yes e = record { is = rw e; most = omega arith }
-
-pub no : {t : Bool} → t ≡ false → Told t 0
-no e = record { is = rw e; most = omega arith }
-
--- n numbers from lo on
-abbrev span : ℕ → ℕ → List ℕ
-span lo zero = []
-span lo (suc n) = lo ∷ span (suc lo) n
-
-module _ (b : ℕ) (xs : List ℕ) where
-  inside : (lo n : ℕ) → lo ≤ b → b < lo + n → one_of (span lo n ++ xs) b ≡ true
-  inside lo zero g h = absurd (omega arith)
-  inside lo (suc n) g h =
-      split (eqb b lo) (λ e. rw e) (λ e. rw e (inside (suc lo) n (omega (arith, eqb-false b lo e)) (omega arith)))
-
-  outside : (lo n : ℕ) → (lo ≤ b → b < lo + n → ⊥) → one_of (span lo n ++ xs) b ≡ one_of xs b
-  outside lo zero out = refl
-  outside lo (suc n) out = rw (ne_eqb b lo (λ e. out (omega arith) (omega arith))) (outside (suc lo) n (λ g h. out (omega arith) (omega arith)))
-
--- a byte that is one of several that follow each other, or one more
-module _ (b lo n x : ℕ) where
-  pub among : lo ≤ b → b < lo + n → one_of (span lo n ++ x ∷ []) b ≡ true
-  among g h = inside b (x ∷ []) lo n g h
-
-  pub not-among : (lo ≤ b → b < lo + n → ⊥) → (b ≡ x → ⊥) → one_of (span lo n ++ x ∷ []) b ≡ false
-  not-among out ne = outside b (x ∷ []) lo n out ∙ rw (ne_eqb b x ne)
 
 -- four yes
 abbrev all-four : Bool → Bool → Bool → Bool → Bool
@@ -81,7 +51,7 @@ module _ (a b c d : ℕ) {i j k l : ℕ} where
     unfolding is_row
     a-row s = four-yes e f g h s
 
-    pub no_row : (i + j + k + l ≡ 4 → ⊥) → 2 ≡ row_of (a ∷ b ∷ c ∷ d ∷ [])
+    pub no_row : (i + j + k + l ≡ 4 → ⊥) → None ≡ row_of (a ∷ b ∷ c ∷ d ∷ [])
     unfolding is_row
     no_row s = rw (four-no e f g h s)
 
@@ -90,10 +60,10 @@ module _ (a b c d : ℕ) {i j k l : ℕ} where
         ≡ not (all-four (not (one_of note_bytes a)) (not (one_of note_bytes b)) (not (one_of note_bytes c)) (not (one_of note_bytes d)))
     some = some-yes (one_of note_bytes a) (one_of note_bytes b) (one_of note_bytes c) (one_of note_bytes d)
 
-    pub without-note : i + j + k + l ≡ 4 → 0 ≡ row_of (a ∷ b ∷ c ∷ d ∷ [])
+    pub without-note : i + j + k + l ≡ 4 → Some 0 ≡ row_of (a ∷ b ∷ c ∷ d ∷ [])
     unfolding note
     without-note s = rw (row, some, four-yes e f g h s)
 
-    pub with-note : (i + j + k + l ≡ 4 → ⊥) → 1 ≡ row_of (a ∷ b ∷ c ∷ d ∷ [])
+    pub with-note : (i + j + k + l ≡ 4 → ⊥) → Some 1 ≡ row_of (a ∷ b ∷ c ∷ d ∷ [])
     unfolding note
     with-note s = rw (row, some, four-no e f g h s)

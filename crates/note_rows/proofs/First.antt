@@ -1,21 +1,21 @@
--- The line at a place of a text: a row, "," or ";", or none of these. Nothing here speaks of code.
+-- The first line of a text: a row, "," or ";", or none of these. Nothing here speaks of code.
 -- Assumes nothing.
 use Prim.Native.Nat.{ℕ, suc, ◌+◌, ◌-◌, ◌≤◌, ◌<◌}
 use mathlib.Core.Path.{◌≡◌, refl, sym, ap, ◌∙◌}
 use mathlib.Core.Bool.{true, false}
 use mathlib.Core.List.{List, [], ◌∷◌, ◌++◌}
-use native.Mathlib.Nat.{add-zero}
 use native.Mathlib.Numerals.{add-one}
 use native.Mathlib.Omega.{arith}
 use lib.Dec.{eqb}
-use lib.ListN.{length, take, drop, get_or, length-append, length-drop, take-append-drop, drop_of_length-le}
-use lib.Seq.{drop-drop, get_or-drop, take_at, drop_at, get_or_at, drop-cons}
+use lib.ListN.{length, take, drop, get_or, length-append, length-drop, take-append-drop}
+use lib.Seq.{take_at, get_or_at, drop-cons, take_all}
+use Rattle.std.specs.Prelude.{Some, None}
 use Rattle.number.proofs.Split.{split, never}
-use Rattle.number.proofs.Each.{none, ◌&◌, All}
-use Rattle.note_rows.specs.NoteRows.{Lines, end, cut, line, before, lines_of, is_row, is_byte, is_end}
-use Rattle.note_rows.specs.Steps.{row_of, first_row, first_end}
-use Rattle.note_rows.specs.declared.line.Ending.TheVariants.{Measure, Last, Fault}
-use Rattle.note_rows.proofs.Lines.{first-line, is-line, row-long, row_open, the-byte}
+use Rattle.number.proofs.Each.{All}
+use Rattle.note_rows.specs.NoteRows.{Lines, end, cut, line, before, lines_of, some_of, note_bytes, is_row, note, is_end}
+use Rattle.number.specs.declared.refusal.Refusal.TheVariants.{BadLine}
+use Rattle.note_rows.specs.Steps.{row_of, begins_row, FirstRow, IsFault}
+use Rattle.note_rows.proofs.Lines.{first-line, is-line, row-long, row_open}
 
 -- a text that has bytes has a line, or one that is cut
 before-end : (b : ℕ) (ls : Lines) → before b ls ≡ end → ⊥
@@ -35,76 +35,58 @@ not-ended text h = other (lines_of text) (not_end text h)
     other cut n = refl
     other (line l ls) n = refl
 
--- a first line of n bytes: where it ends, what it holds, and what follows it
-pub record LineOf (n : ℕ) (text l : List ℕ) (ls : Lines) : Type 0 where
-  pub within : n < length text
-  pub closed : get_or text n 0 ≡ 10
-  pub bytes : take n text ≡ l
-  pub after : ls ≡ lines_of (drop (n + 1) text)
+-- a first line of n bytes: where it ends, and what it holds
+record LineOf (n : ℕ) (text l : List ℕ) : Type 0 where
+  within : n < length text
+  closed : get_or text n 0 ≡ 10
+  bytes : take n text ≡ l
 
-pub line_of : (n : ℕ) (text : List ℕ) {l : List ℕ} {ls : Lines} → lines_of text ≡ line l ls → length l ≡ n → LineOf n text l ls
-line_of n text {l} {ls} e h =
+line_of : (n : ℕ) (text : List ℕ) {l : List ℕ} {ls : Lines} → lines_of text ≡ line l ls → length l ≡ n → LineOf n text l
+line_of n text {l} e h =
     let f = first-line text e in
     let w = f.whole in
-    let rest : drop (n + 1) text ≡ f.rest =
-    sym (drop-drop 1 n text) ∙ ap (λ (t : List ℕ). drop 1 (drop n t)) w ∙ ap (drop 1) (drop_at l (10 ∷ f.rest) n h) in
     record {
       within = omega (arith, ap length w, length-append l (10 ∷ f.rest));
       closed = ap (λ (t : List ℕ). get_or t n 0) w ∙ get_or_at l 10 f.rest 0 n h;
       bytes = ap (take n) w ∙ take_at l (10 ∷ f.rest) n h;
-      after = f.after ∙ sym (ap lines_of rest);
     }
 
--- a text whose first 0A stands behind n bytes has such a line
-pub has-line : (n : ℕ) (text : List ℕ) → n < length text → get_or text n 0 ≡ 10 → All (λ b. eqb b 10) false (take n text)
-    → lines_of text ≡ line (take n text) (lines_of (drop (n + 1) text))
+-- the bytes after n, as a slice pattern gives them
+abbrev pub after : ℕ → List ℕ → List ℕ
+after n text = take (length text - n) (drop n text)
+
+after-is : (n : ℕ) (text : List ℕ) → after n text ≡ drop n text
+after-is n text = take_all (length text - n) (drop n text) (simp length-drop (omega arith))
+
+-- a text whose first 0A stands after n bytes has such a line
+has-line : (n : ℕ) (text : List ℕ) → n + 1 ≤ length text → get_or text n 0 ≡ 10 → All (λ b. eqb b 10) false (take n text)
+    → lines_of text ≡ line (take n text) (lines_of (after (n + 1) text))
 has-line n text h e inside =
-    let d : drop n text ≡ get_or text n 0 ∷ drop (suc n) text = drop-cons text n 0 h in
+    let d : drop n text ≡ get_or text n 0 ∷ drop (suc n) text = drop-cons text n 0 (omega arith) in
     let whole : text ≡ take n text ++ 10 ∷ drop (suc n) text = sym (take-append-drop n text) ∙ ap (λ (t : List ℕ). take n text ++ t) (d ∙ rw e) in
-    ap lines_of whole ∙ is-line (take n text) (drop (suc n) text) inside ∙ rw (add-one n)
+    ap lines_of whole ∙ is-line (take n text) (drop (suc n) text) inside ∙ rw (after-is (n + 1) text, add-one n)
 
 -- no row
-no_row : (ls : Lines) → ((l : List ℕ) (ms : Lines) → ls ≡ line l ms → is_row l ≡ true → ⊥) → 2 ≡ first_row ls
+no_row : (ls : Lines) → ((l : List ℕ) (ms : Lines) → ls ≡ line l ms → is_row l ≡ true → ⊥) → begins_row ls ≡ false
 no_row end n = refl
 no_row cut n = refl
-no_row (line l ls) n = split (is_row l) (λ t. absurd (n l ls refl t)) (λ t. rw t)
+no_row (line l ls) n = split (is_row l) (λ t. absurd (n l ls refl t)) (λ t. t)
 
--- neither "," nor ";"
-no_end : (ls : Lines) → (ls ≡ end → ⊥) → ((l : List ℕ) (ms : Lines) → ls ≡ line l ms → (is_byte 44 l ≡ true → ⊥) × (is_byte 59 l ≡ true → ⊥))
-    → Fault 14 ≡ first_end ls
-no_end end n m = absurd (n refl)
-no_end cut n m = refl
-no_end (line l ls) n m =
-    split (is_byte 44 l) (λ t. absurd ((m l ls refl).0 t)) (λ t. split (is_byte 59 l) (λ u. absurd ((m l ls refl).1 u)) (λ u. rw (t, u)))
+module _ (text : List ℕ) where
+  -- what first_row answers
+  pub too_short : length text < 5 → begins_row (lines_of text) ≡ false
+  too_short h = no_row (lines_of text) (λ l ls e r. omega (arith, (line_of 4 text e (row-long l r)).within))
 
-first_byte : (text : List ℕ) → get_or text 0 0 ≡ get_or (take 1 text) 0 0
-first_byte [] = refl
-first_byte (b ∷ text) = refl
+  pub not-closed : (get_or text 4 0 ≡ 10 → ⊥) → begins_row (lines_of text) ≡ false
+  not-closed h = no_row (lines_of text) (λ l ls e r. h ((line_of 4 text e (row-long l r)).closed))
 
-one_byte : (text : List ℕ) → 0 < length text → take 1 text ≡ get_or text 0 0 ∷ []
-one_byte [] h = absurd (omega arith)
-one_byte (b ∷ text) h = refl
+  -- the first four bytes
+  abbrev pub four : List ℕ
+  four = get_or text 0 0 ∷ get_or text 1 0 ∷ get_or text 2 0 ∷ get_or text 3 0 ∷ []
 
-byte-long : (b : ℕ) (l : List ℕ) → is_byte b l ≡ true → length l ≡ 1
-byte-long b l h = ap length (the-byte b l h)
-
-module _ (text : List ℕ) (at : ℕ) where
-  left : length (drop at text) ≡ length text - at
-  left = length-drop at text
-
-  byte : (i : ℕ) → get_or (drop at text) i 0 ≡ get_or text (at + i) 0
-  byte i = get_or-drop at text i 0
-
-  -- what row_at answers
-  pub too_short : length text - at < 5 → 2 ≡ first_row (lines_of (drop at text))
-  too_short h = no_row (lines_of (drop at text)) (λ l ls e r. omega (arith, left, (line_of 4 (drop at text) e (row-long l r)).within))
-
-  pub not-closed : (get_or text (at + 4) 0 ≡ 10 → ⊥) → 2 ≡ first_row (lines_of (drop at text))
-  not-closed h = no_row (lines_of (drop at text)) (λ l ls e r. h (sym (byte 4) ∙ (line_of 4 (drop at text) e (row-long l r)).closed))
-
-  module _ (long : 5 ≤ length text - at) (closed : get_or text (at + 4) 0 ≡ 10) where
-    four : take 4 (drop at text) ≡ get_or text at 0 ∷ get_or text (at + 1) 0 ∷ get_or text (at + 2) 0 ∷ get_or text (at + 3) 0 ∷ []
-    four = first-four (drop at text) (omega (arith, left)) ∙ simp (get_or-drop, add-zero)
+  module _ (long : 5 ≤ length text) (closed : get_or text 4 0 ≡ 10) where
+    four-is : take 4 text ≡ four
+    four-is = first-four text long
       where
         first-four : (t : List ℕ) → 5 ≤ length t → take 4 t ≡ get_or t 0 0 ∷ get_or t 1 0 ∷ get_or t 2 0 ∷ get_or t 3 0 ∷ []
         first-four [] h = absurd (omega arith)
@@ -113,60 +95,34 @@ module _ (text : List ℕ) (at : ℕ) where
         first-four (a ∷ b ∷ c ∷ []) h = absurd (omega arith)
         first-four (a ∷ b ∷ c ∷ d ∷ t) h = refl
 
-    told : row_of (take 4 (drop at text)) ≡ first_row (lines_of (drop at text))
-    told =
-        let t = drop at text in
-        split (is_row (take 4 t))
-        (λ r. rw (has-line 4 t (omega (arith, left)) (byte 4 ∙ closed) (row_open (take 4 t) r)))
-        (λ r. rw r (no_row (lines_of t) (λ l ls e q. let b = (line_of 4 t e (row-long l q)).bytes in never (cc))))
+    -- four bytes that are no row
+    pub other_bytes : None ≡ row_of four → begins_row (lines_of text) ≡ false
+    other_bytes e =
+        split (is_row four)
+        (λ r. let f = rw r at e in never (cc))
+        (λ r. no_row (lines_of text)
+        (λ l ls t q. let same : l ≡ four = sym (line_of 4 text t (row-long l q)).bytes ∙ four-is in let f = rw same at q in never (cc)))
 
-    pub row_told : {r : ℕ} → r ≡ row_of (get_or text at 0 ∷ get_or text (at + 1) 0 ∷ get_or text (at + 2) 0 ∷ get_or text (at + 3) 0 ∷ [])
-        → r ≡ first_row (lines_of (drop at text))
-    row_told e = e ∙ sym (ap row_of four) ∙ told
+    pub a-row : {n : ℕ} → Some n ≡ row_of four → FirstRow text n (after 5 text)
+    a-row {n} e =
+        split (is_row four)
+        (λ r. let f = rw r at e in record {
+          l = four;
+          lines = rw four-is at (has-line 4 text long closed (rw four-is (row_open four r)));
+          is-row = r;
+          adds = cc;
+          shorter = omega (arith, length-drop 5 text, ap length (after-is 5 text));
+        })
+        (λ r. let f = rw r at e in never (cc))
 
-  -- what end_at answers
-  pub nothing_left : length text - at ≡ 0 → Fault 16 ≡ first_end (lines_of (drop at text))
-  nothing_left h = rw (drop_of_length-le text {i = at} (omega arith))
+-- a text of one byte begins with no line that passes
+pub one_left : (text : List ℕ) → 0 < length text → length text < 2 → IsFault text BadLine
+unfolding is_row
+one_left [] g h rows = absurd (omega arith)
+one_left (b ∷ []) g h rows = split (eqb b 10) (λ e. rw e) (λ e. rw e)
+one_left (b ∷ c ∷ text) g h rows = absurd (omega arith)
 
-  module _ (some : length text - at ≡ 0 → ⊥) where
-    there : lines_of (drop at text) ≡ end → ⊥
-    there = not_end (drop at text) (rw left (omega (arith, some)))
-
-    no-byte-line : ((l : List ℕ) (ls : Lines) → LineOf 1 (drop at text) l ls → ⊥) → Fault 14 ≡ first_end (lines_of (drop at text))
-    no-byte-line lost =
-        let no : (b : ℕ) (l : List ℕ) (ls : Lines) → lines_of (drop at text) ≡ line l ls → is_byte b l ≡ true → ⊥ =
-        λ b l ls e t. lost l ls (line_of 1 (drop at text) e (byte-long b l t)) in
-        no_end (lines_of (drop at text)) there (λ l ls e. (no 44 l ls e, no 59 l ls e))
-
-    pub one_left : length text - at < 2 → Fault 14 ≡ first_end (lines_of (drop at text))
-    one_left h = no-byte-line (λ l ls f. omega (arith, left, f.within))
-
-    pub longer : (get_or text (at + 1) 0 ≡ 10 → ⊥) → Fault 14 ≡ first_end (lines_of (drop at text))
-    longer h = no-byte-line (λ l ls f. h (sym (byte 1) ∙ f.closed))
-
-    pub other_byte : (get_or text at 0 ≡ 44 → ⊥) → (get_or text at 0 ≡ 59 → ⊥) → Fault 14 ≡ first_end (lines_of (drop at text))
-    other_byte c s = no_end (lines_of (drop at text)) there (λ l ls e. (λ t. c (same 44 l ls e t), λ t. s (same 59 l ls e t)))
-      where
-        same : (b : ℕ) (l : List ℕ) (ls : Lines) → lines_of (drop at text) ≡ line l ls → is_byte b l ≡ true → get_or text at 0 ≡ b
-        same b l ls e t =
-            let first : get_or (drop at text) 0 0 ≡ b = first_byte (drop at text) ∙ rw ((line_of 1 (drop at text) e (byte-long b l t)).bytes, the-byte b l t) in
-            rw add-zero at (sym (byte 0) ∙ first)
-
-  module _ (long : 2 ≤ length text - at) (closed : get_or text (at + 1) 0 ≡ 10) where
-    -- a line of one byte
-    byte-line : (b : ℕ) → eqb b 10 ≡ false → get_or text at 0 ≡ b → lines_of (drop at text) ≡ line (b ∷ []) (lines_of (drop (at + 2) text))
-    byte-line b n e =
-        let t = drop at text in
-        let first : get_or t 0 0 ≡ b = byte 0 ∙ rw add-zero e in
-        let is : take 1 t ≡ b ∷ [] = one_byte t (omega (arith, left)) ∙ rw first in
-        rw (is, drop-drop 2 at text) at (has-line 1 t (omega (arith, left)) (byte 1 ∙ closed) (rw is (n & none)))
-
-    pub a-comma : get_or text at 0 ≡ 44 → Measure ≡ first_end (lines_of (drop at text))
-    a-comma e = rw (byte-line 44 refl e)
-
-    -- ";" with bytes behind it, and with none
-    pub bytes-behind : get_or text at 0 ≡ 59 → (length text - at ≡ 2 → ⊥) → Fault 16 ≡ first_end (lines_of (drop at text))
-    bytes-behind e h = rw (byte-line 59 refl e, not-ended (drop (at + 2) text) (omega (arith, length-drop (at + 2) text, h)))
-
-    pub none-behind : get_or text at 0 ≡ 59 → length text - at ≡ 2 → Last ≡ first_end (lines_of (drop at text))
-    none-behind e h = rw (byte-line 59 refl e, drop_of_length-le text {i = at + 2} (omega arith))
+-- a row adds one at most
+pub adds_one : (l : List ℕ) → note l ≤ 1
+unfolding note
+adds_one l = split (some_of note_bytes l) (λ e. rw e (omega arith)) (λ e. rw e (omega arith))

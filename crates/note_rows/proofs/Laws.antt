@@ -15,8 +15,7 @@ use Rattle.note_rows.specs.NoteRows.{Lines, end, cut, line, before, lines_of, is
 use Rattle.note_rows.specs.NoteRows.{row_densities, lines_no, text_no}
 use Rattle.note_rows.specs.Laws.{commas, ends_in_last, NoteRowLaws}
 use Rattle.note_rows.proofs.Lines.{row-not-byte, the-byte}
-use Rattle.note_rows.proofs.First.{not-ended}
-use Rattle.note_rows.proofs.Found.{adds_one}
+use Rattle.note_rows.proofs.First.{not-ended, adds_one}
 
 -- lines that pass behind so many rows of their measure
 data Passes : ℕ → Lines → Type 0 where

@@ -1,7 +1,6 @@
 pub mod Lines
 pub mod Bytes
 pub mod First
-pub mod Found
 pub mod Passing
 pub mod Reading
 pub mod Laws

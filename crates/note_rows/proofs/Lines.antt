@@ -13,21 +13,20 @@ use Rattle.number.proofs.Each.{none, ◌&◌, All}
 use Rattle.note_rows.specs.NoteRows.{Lines, end, cut, line, before, lines_of, one_of, all_of, row_bytes, is_row, is_byte}
 
 -- the first line of a text stands before the first 0A
-pub record FirstLine (text l : List ℕ) (ls : Lines) : Type 0 where
+pub record Opens (text l : List ℕ) : Type 0 where
   pub rest : List ℕ
   pub whole : text ≡ l ++ 10 ∷ rest
-  pub after : ls ≡ lines_of rest
 
 -- a byte went into the first line
 went-in : (b : ℕ) (text l : List ℕ) (ls ms : Lines) → lines_of text ≡ ms → before b ms ≡ line l ls
-    → ((k : List ℕ) → lines_of text ≡ line k ls → l ≡ b ∷ k → FirstLine (b ∷ text) l ls) → FirstLine (b ∷ text) l ls
+    → ((k : List ℕ) → lines_of text ≡ line k ls → l ≡ b ∷ k → Opens (b ∷ text) l) → Opens (b ∷ text) l
 went-in b text l ls end e f g = never (cc)
 went-in b text l ls cut e f g = never (cc)
 went-in b text l ls (line k ms) e f g =
     let same : ms ≡ ls = cc in
     g k (rw same at e) (cc)
 
-pub first-line : (text : List ℕ) {l : List ℕ} {ls : Lines} → lines_of text ≡ line l ls → FirstLine text l ls
+pub first-line : (text : List ℕ) {l : List ℕ} {ls : Lines} → lines_of text ≡ line l ls → Opens text l
 first-line [] e = never (cc)
 first-line (b ∷ text) {l} {ls} e =
     split (eqb b 10)
@@ -35,12 +34,12 @@ first-line (b ∷ text) {l} {ls} e =
     let f = rw t at e in
     let empty : l ≡ [] = cc in
     let ten : b ≡ 10 = eqb-true b 10 t in
-    record { rest = text; whole = rw (empty, ten); after = cc })
+    record { rest = text; whole = rw (empty, ten) })
     (λ t. went-in b text l ls (lines_of text) refl (rw t at e)
     (λ k h m.
     let r = first-line text h in
     let whole : b ∷ text ≡ (b ∷ k) ++ 10 ∷ r.rest = ap (λ (t : List ℕ). b ∷ t) r.whole in
-    record { rest = r.rest; whole = rw m whole; after = r.after }))
+    record { rest = r.rest; whole = rw m whole }))
 
 -- bytes other than 0A, and then 0A, are a line
 pub is-line : (l rest : List ℕ) → All (λ b. eqb b 10) false l → lines_of (l ++ 10 ∷ rest) ≡ line l (lines_of rest)

@@ -1,17 +1,20 @@
 // The lines of note rows, one by one.
-ghost use Rattle.std.specs.Prelude.{◌≡◌, not, [], ◌∷◌, ◌≤◌, length, drop};
+ghost use Rattle.std.specs.Prelude.{◌≡◌, false, not, [], ◌∷◌, ◌<◌, length, MatchOption, MatchResult};
+ghost use Rattle.std.specs.Iterator.{at_most};
 ghost use Rattle.note_rows.specs.NoteRows.{lines_of, one_of, row_bytes, note_bytes};
-ghost use Rattle.note_rows.specs.Steps.{Told, row_of, first_row, first_end};
+ghost use Rattle.note_rows.specs.Steps.{Told, row_of, begins_row, FirstRow, FirstLine, IsFault, NextLine};
 
-// What stands behind a measure's rows.
+use number::refusal::Refusal;
+
+// A line that passes.
 #[derive(Clone, Copy)]
-pub enum Ending {
+pub enum Line {
+    // A row, and what it adds to its measure.
+    Row(u32),
     // The line ",", which ends a measure.
     Measure,
-    // The line ";", which ends the last, with nothing behind it.
+    // The line ";", which ends the last, with nothing after it.
     Last,
-    // Neither, or bytes behind ";": the question's number.
-    Fault(u32),
 }
 
 // 1 for a byte of a row, "0" to "4" or "M", else 0.
@@ -34,57 +37,82 @@ fn quiet_byte(b: u8) -> u32
     }
 }
 
-// What four bytes add to their measure, 2 if they are no row. Each sum is compiled to a few operations on all four bytes; `&&` in its
-// place, or `if` in place of `match` above, is compiled to branches, and which notes a row holds no processor predicts.
-fn row_of(a: u8, b: u8, c: u8, d: u8) -> u32
+// What four bytes add to their measure, if they are a row. Each sum is compiled to a few operations on all four bytes; `&&` or `&` of `bool`s
+// in its place, or `if` or `matches!` in place of `match` above, is compiled to branches, and which notes a row holds no processor predicts.
+fn row_of(a: u8, b: u8, c: u8, d: u8) -> Option<u32>
     ensures { result ≡ row_of (a ∷ b ∷ c ∷ d ∷ []) }
 {
     if row_byte(a) + row_byte(b) + row_byte(c) + row_byte(d) != 4 {
-        return 2;
+        return None;
     }
     if quiet_byte(a) + quiet_byte(b) + quiet_byte(c) + quiet_byte(d) == 4 {
-        return 0;
+        return Some(0);
     }
-    1
+    Some(1)
 }
 
-// The row at the place `at`, as `row_of` tells it; 2 where the line is no row.
-pub fn row_at(text: &[u8], at: usize) -> u32
-    requires { at ≤ length text.now }
-    ensures { result ≡ first_row (lines_of (drop at text.now)) }
+// The row that a text begins with, and what stands after it.
+fn first_row(text: &[u8]) -> Option<(u32, &[u8])>
+    ensures { MatchOption result (begins_row (lines_of text.now) ≡ false) (λ p. FirstRow text.now p.0 p.1.now) }
 {
-    if text.len() - at < 5 {
-        return 2;
+    let [a, b, c, d, end, rest @ ..] = text else {
+        return None;
+    };
+    if *end != b'\n' {
+        return None;
     }
-    if text[at + 4] != b'\n' {
-        return 2;
-    }
-    row_of(text[at], text[at + 1], text[at + 2], text[at + 3])
+    let note = row_of(*a, *b, *c, *d)?;
+    Some((note, rest))
 }
 
-// What the line at the place `at` ends.
-pub fn end_at(text: &[u8], at: usize) -> Ending
-    requires { at ≤ length text.now }
-    ensures { result ≡ first_end (lines_of (drop at text.now)) }
+// The line "," or ";" that a text begins with, and what stands after it.
+fn first_end(text: &[u8]) -> Result<(Line, &[u8]), Refusal>
+    requires { (0 < length text.now) × (begins_row (lines_of text.now) ≡ false) }
+    ensures { MatchResult result (λ p. FirstLine text.now p.0 p.1.now) (IsFault text.now) }
 {
-    let left = text.len() - at;
-    if left == 0 {
-        return Ending::Fault(16);
+    let [mark, end, rest @ ..] = text else {
+        return Err(Refusal::BadLine);
+    };
+    if *end != b'\n' {
+        return Err(Refusal::BadLine);
     }
-    if left < 2 {
-        return Ending::Fault(14);
+    match *mark {
+        b',' => Ok((Line::Measure, rest)),
+        b';' if rest.is_empty() => Ok((Line::Last, rest)),
+        b';' => Err(Refusal::BadEnd),
+        _ => Err(Refusal::BadLine),
     }
-    if text[at + 1] != b'\n' {
-        return Ending::Fault(14);
+}
+
+// The lines of the text that is left; after a faulty line none are.
+#[derive(Drop)]
+pub struct Lines<'a>(pub &'a [u8]);
+
+impl<'a> Iterator for Lines<'a> {
+    type Item = Result<Line, Refusal>;
+
+    ghost next_gives = { λ s r t. NextLine s.0.now r t.0.now };
+
+    ghost remaining = { λ s. at_most (length s.0.now) };
+
+    // Most lines are rows: of any other line and of the text's end it is asked only where no row stands.
+    fn next(&mut self) -> Option<Result<Line, Refusal>> {
+        if let Some((note, rest)) = first_row(self.0) {
+            self.0 = rest;
+            return Some(Ok(Line::Row(note)));
+        }
+        if self.0.is_empty() {
+            return None;
+        }
+        match first_end(self.0) {
+            Ok((line, rest)) => {
+                self.0 = rest;
+                Some(Ok(line))
+            }
+            Err(refusal) => {
+                self.0 = &[];
+                Some(Err(refusal))
+            }
+        }
     }
-    if text[at] == b',' {
-        return Ending::Measure;
-    }
-    if text[at] != b';' {
-        return Ending::Fault(14);
-    }
-    if left != 2 {
-        return Ending::Fault(16);
-    }
-    Ending::Last
 }

@@ -2,8 +2,11 @@
 ghost use Rattle.std.specs.Prelude.{◌≡◌, set};
 ghost use Rattle.note_rows.specs.Steps.{MeasuresRead};
 
-use crate::line::{Ending, end_at, row_at};
-use crate::{RowsAnswer, accepted, refusal};
+use crate::line::{Line, Lines};
+use number::refusal::Refusal;
+
+// A measure has at most so many rows.
+const MOST_ROWS: u32 = 192;
 
 // Measure k has this density, if there is a place for it.
 fn keep(densities: &mut [u32], k: usize, density: u32)
@@ -16,40 +19,32 @@ fn keep(densities: &mut [u32], k: usize, density: u32)
 
 // The first no to the lines; where there is none, the number of measures, and at the start of `densities` as many of their densities as it
 // has places.
-pub fn read_measures(text: &[u8], densities: &mut [u32]) -> RowsAnswer
+pub fn read_measures(text: &[u8], densities: &mut [u32]) -> Result<usize, Refusal>
     ensures { MeasuresRead text.now densities.old densities.new result }
 {
-    let mut at = 0;
-    let mut rows: u32 = 0;
+    let mut rows = 0;
     let mut density = 0;
     let mut measures = 0;
-    loop {
-        let row = row_at(text, at);
-        if row < 2 {
-            if rows == 192 {
-                return refusal(15);
+    for line in Lines(text) {
+        match line? {
+            Line::Row(note) => {
+                if rows == MOST_ROWS {
+                    return Err(Refusal::TooManyRows);
+                }
+                rows += 1;
+                density += note;
             }
-            rows += 1;
-            density += row;
-            at += 5;
-        } else {
-            let ending = end_at(text, at);
-            match ending {
-                Ending::Measure => {
-                    keep(densities, measures, density);
-                    measures += 1;
-                    rows = 0;
-                    density = 0;
-                    at += 2;
-                }
-                Ending::Last => {
-                    keep(densities, measures, density);
-                    return accepted(measures + 1);
-                }
-                Ending::Fault(no) => {
-                    return refusal(no);
-                }
+            Line::Measure => {
+                keep(densities, measures, density);
+                measures += 1;
+                rows = 0;
+                density = 0;
+            }
+            Line::Last => {
+                keep(densities, measures, density);
+                return Ok(measures + 1);
             }
         }
     }
+    Err(Refusal::BadEnd)
 }

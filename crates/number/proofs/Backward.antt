@@ -6,9 +6,12 @@ use mathlib.Core.List.{List, [], ◌∷◌, ◌++◌, append_assoc, append-nil}
 use native.Mathlib.Omega.{arith}
 use lib.ListN.{length, length-append, take, drop, set}
 use lib.Seq.{sets, sets-eq, length-sets, length-take-le, drop_at}
+use lib.Dec.{ltb}
+use borrow.Author.Tests.{ltb-true, ltb-false}
 use Rattle.number.specs.Digits.{digits, last_digits}
 use Rattle.number.specs.Questions.{filled}
-use Rattle.number.proofs.Digits.{digits-one, digits_more, length_some, without, digits_last, length_without}
+use Rattle.number.proofs.Digits.{digits-one, digits_more, length_some, without, digits_last, length_without, length_more}
+use Rattle.number.proofs.Split.{split}
 
 -- stores before what is written already
 back : (out : List ℕ) (j : ℕ) (xs : List ℕ) → j + length xs ≤ length out → drop j (sets out j xs) ≡ xs ++ drop (j + length xs) out
@@ -73,3 +76,33 @@ module _ (n : ℕ) (old : List ℕ) where
     finished-one h =
         let e : k ≡ 1 = g.place ∙ rw (digits-one rest h) in
         rw e (first-set out (48 + rest) (omega (arith, g.long, g.within)) ∙ ap (filled out) (sym (digits-one rest h)) ∙ finished)
+
+  -- the same down to place 0, where all is written
+  pub record Down (out : List ℕ) (k rest : ℕ) : Type 0 where
+    pub going : 1 ≤ k → Going out k rest
+    pub done : k ≡ 0 → out ≡ filled old (digits n)
+
+  pub down-starts : length (digits n) ≤ length old → Down old (length (digits n)) n
+  down-starts h = record { going = λ s. starts h; done = λ e. absurd (omega (arith, length_some n)) }
+
+  module _ (out : List ℕ) (k rest : ℕ) (d : Down out k rest) (s : 1 ≤ k) where
+    g : Going out k rest
+    g = d.going s
+
+    long-rest : 2 ≤ k → 10 ≤ rest
+    long-rest h = split (ltb rest 10) (λ w. absurd (omega (arith, g.place, ap length (digits-one rest (ltb-true _ _ w))))) (λ w. omega (arith, w, ltb-false))
+
+    short-rest : k ≡ 1 → rest < 10
+    short-rest h =
+        split (ltb rest 10) (λ w. ltb-true _ _ w)
+        (λ w. let m : 10 ≤ rest = omega (arith, w, ltb-false) in absurd (omega (arith, g.place, length_more rest m, length_some (rest / 10))))
+
+    pub down-step : Down (set out (k - 1) (48 + rest % 10)) (k - 1) (rest / 10)
+    down-step =
+        record {
+          going = λ h. step-one out k rest g (long-rest (omega arith));
+          done = λ e.
+              let one : k ≡ 1 = omega arith in
+              let r : rest % 10 ≡ rest = omega (arith, short-rest one) in
+              rw r (finished-one out k rest g (short-rest one));
+        }

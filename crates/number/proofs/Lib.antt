@@ -1,5 +1,6 @@
 pub mod Split
 pub mod Questions
+pub mod Numbered
 pub mod Each
 pub mod Digits
 pub mod Four

@@ -19,6 +19,11 @@ module _ (width n : ℕ) where
   unfolding padded
   padded-length = simp (length-append, length-replicate)
 
+  -- as it is put, its digits counted
+  pub padded-parts : {count spaces : ℕ} → count ≡ length (digits n) → spaces ≡ width - count → padded width n ≡ replicate spaces 32 ++ digits n
+  unfolding padded
+  padded-parts c s = rw (s, c)
+
   pub padded-narrow : width ≤ length (digits n) → padded width n ≡ digits n
   unfolding padded
   padded-narrow h = rw (sub-eq-zero_of_le h)

@@ -9,14 +9,16 @@ use native.Mathlib.Omega.{arith}
 use lib.ListN.{length, take, drop, get_or, set, length-append, length-drop, drop_of_length-le}
 use lib.Seq.{sets, length-sets, sets-eq, take-suc, take_all, drop-drop}
 use borrow.Rule.Slice.PartMut.{put_mid}
-use Rattle.number.specs.Questions.{first_no, filled, room_for, OneText}
+use Rattle.number.specs.Questions.{filled, OneText}
 use Rattle.number.specs.Place.{Room, Wrote}
-use Rattle.number.specs.declared.Written.{Written}
-use Rattle.number.proofs.Push.{room-yes}
 
 sets-append : (xs ys l : List ℕ) (i : ℕ) → sets (sets l i xs) (i + length xs) ys ≡ sets l i (xs ++ ys)
 sets-append [] ys l i = rw add-zero
 sets-append (x ∷ xs) ys l i = rw (add-suc, ← (suc-add i (length xs))) (sets-append xs ys _ (suc i))
+
+-- a part that is written whole, as by `copy_from_slice`
+pub put-part : (old ys : List ℕ) (at n : ℕ) → n ≡ length ys → at + length ys ≤ length old → put_mid at n old ys ≡ sets old at ys
+put-part old ys at n l h = rw (sets-eq ys old at h, l, drop-drop (length ys) at old) (sym (append_assoc (take at old) ys (drop (at + length ys) old)))
 
 module _ {old : List ℕ} {at : ℕ} where
   -- nothing written
@@ -102,13 +104,6 @@ module _ (xs old last : List ℕ) (at : ℕ) (room : Room old at xs) where
             (sym (append_assoc (take at old) xs (drop (at + length xs) old)));
       }
 
-  -- by a call that writes one text
-  module _ (r : Written) (p : OneText (first_no (room_for xs part ∷ [])) xs part last r) where
-    accepted-there : first_no (room_for xs part ∷ []) ≡ 0
-    accepted-there = room-yes xs part part_room
-
-    pub part_length : r.length ≡ length xs
-    part_length = ap (λ (w : Written). w.length) (rw accepted-there at p.answer)
-
-    pub part-wrote : Wrote old (put_mid at (length old - at) old last) at xs (at + r.length)
-    part-wrote = rw part_length (part_filled (rw accepted-there at p.bytes))
+  -- by a worker that fills the part; the text is told in parts
+  pub part-put : {ys : List ℕ} {n : ℕ} → xs ≡ ys → n ≡ length xs → last ≡ filled part ys → Wrote old (put_mid at (length old - at) old last) at xs (at + n)
+  part-put e l p = rw l (part_filled (rw e p))

@@ -1,20 +1,18 @@
 -- What meets `OneText` and `Pushed`. Nothing here speaks of code.
 -- Assumes nothing.
 use Prim.Native.Nat.{ℕ, ◌+◌, ◌-◌, ◌≤◌, ◌<◌}
-use mathlib.Core.Path.{◌≡◌, refl, sym, ap, ◌∙◌}
+use mathlib.Core.Path.{◌≡◌, refl, sym, ap}
 use mathlib.Core.List.{List, [], ◌∷◌, ◌++◌}
 use native.Mathlib.Omega.{arith}
 use lib.Dec.{leb}
 use lib.ListN.{length, set, replicate}
-use borrow.Author.Tests.{le-leb, lt-leb, leb-true}
+use borrow.Author.Tests.{le-leb, lt-leb}
 use Rattle.number.specs.Digits.{digits, padded}
 use Rattle.number.specs.Questions.{Question, question, first_no, filled, room_for, OneText}
-use Rattle.number.specs.Place.{Room}
 use Rattle.number.specs.Pushed.{width_in_range, Pushed}
 use Rattle.number.specs.declared.Written.{Written}
-use Rattle.number.proofs.Split.{split}
 use Rattle.number.proofs.Digits.{digits-one, length_some}
-use Rattle.number.proofs.Padded.{padded-length, padded-narrow}
+use Rattle.number.proofs.Padded.{padded-length, padded-narrow, padded-parts}
 use Rattle.number.proofs.Questions.{refused-is}
 use Rattle.number.proofs.Backward.{first-set}
 
@@ -59,8 +57,7 @@ width-yes width qs h = rw (le-leb width 20 h)
 module _ (n width count spaces q : ℕ) (old : List ℕ) (c : count ≡ length (digits n)) (s : spaces ≡ width - count)
     (a : q ≡ first_no (width_in_range width ∷ question 4 (leb (spaces + count) (length old)) ∷ [])) where
   parts : padded width n ≡ replicate spaces 32 ++ digits n
-  unfolding padded
-  parts = rw (s, c)
+  parts = padded-parts width n c s
 
   due : spaces + count ≡ length (padded width n)
   due = omega (arith, padded-length width n)
@@ -71,22 +68,11 @@ module _ (n width count spaces q : ℕ) (old : List ℕ) (c : count ≡ length (
   pub padded-refused : (q ≡ 0 → ⊥) → Pushed n width old old (record { refused = q; length = 0 })
   padded-refused ne = rw first-no (refused (padded width n) old q ne)
 
-  module _ (yes : q ≡ 0) where
-    fits : spaces + count ≤ length old
-    fits =
-        let z = sym a ∙ yes in
-        split (leb width 20)
-        (λ w. split (leb (spaces + count) (length old)) (λ r. leb-true _ _ r) (λ r. absurd (omega (arith, rw (w, r) at z))))
-        (λ w. absurd (omega (arith, rw w at z)))
-
-    pub padded-room : Room old 0 (replicate spaces 32 ++ digits n)
-    padded-room = record { fits = omega (arith, fits, due, ap length parts) }
-
-    pub padded-written : (new : List ℕ) → new ≡ filled old (replicate spaces 32 ++ digits n)
-        → Pushed n width old new (record { refused = 0; length = spaces + count })
-    padded-written new b =
-        rw (first-no, yes)
-        (record { answer = ap (λ (k : ℕ). record { refused = 0; length = k }) due; bytes = rw parts b })
+  pub padded-written : q ≡ 0 → (new : List ℕ) → new ≡ filled old (replicate spaces 32 ++ digits n)
+      → Pushed n width old new (record { refused = 0; length = spaces + count })
+  padded-written accepts new b =
+      rw (first-no, accepts)
+      (record { answer = ap (λ (k : ℕ). record { refused = 0; length = k }) due; bytes = rw parts b })
 
 -- a width that changes nothing
 pub pushed-narrow : (width n : ℕ) (old new : List ℕ) (r : Written) → width < 2

@@ -1,4 +1,5 @@
 pub mod Digits
+pub mod Refusal
 pub mod Questions
 pub mod Place
 pub mod Grown

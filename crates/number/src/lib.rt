@@ -2,6 +2,7 @@
 #![tactic(auto)]
 
 pub mod buffer;
+pub mod refusal;
 pub mod words;
 
 ghost use Rattle.std.specs.Prelude.{◌≡◌, [], ◌∷◌, ◌++◌, ◌-◌, ◌≤◌, leb, length, replicate};
@@ -9,31 +10,48 @@ ghost use Rattle.number.specs.Digits.{digits, padded, last_digits};
 ghost use Rattle.number.specs.Place.{Room, Wrote};
 ghost use Rattle.number.specs.Pushed.{DigitCount, width_in_range, Pushed};
 ghost use Rattle.number.specs.Questions.{question, first_no, filled, room_for, OneText};
+ghost use Rattle.number.specs.Refusal.{carried, written_of};
 ghost use Rattle.number.specs.Word.{word_bytes};
 
+use crate::refusal::Refusal;
 use crate::words::store_word;
 
-// What a call that writes one text answers: the refusal's number, 0 where the call is accepted, and the text's length.
+// What C is told of a call that writes one text: the refusal's number, 0 where the call is accepted, and the text's length.
 #[repr(C)]
-#[derive(Clone, Copy)]
+#[derive(Clone, Copy, Debug, PartialEq, Eq)]
 pub struct Written {
     pub refused: u32,
     pub length: usize,
 }
+
+impl From<Result<usize, Refusal>> for Written {
+    ghost from_gives = { λ answer written. written ≡ written_of answer };
+
+    fn from(answer: Result<usize, Refusal>) -> Written {
+        match answer {
+            Ok(length) => Written { refused: 0, length },
+            Err(refusal) => Written {
+                refused: refusal.number(),
+                length: 0,
+            },
+        }
+    }
+}
+
+// No number is wider: a u64 has at most 20 digits.
+pub const MOST_WIDTH: u32 = 20;
 
 // How many digits `n` has: dividing by ten takes one away, and a number below ten has one. The turns are at most 19 and the compiler makes a
 // comparison of each, so that callers which measure texts have no loop inside their own.
 fn count_by_ten(n: u64) -> usize
     ensures { DigitCount n result }
 {
-    let mut k: usize = 1;
     let mut rest = n;
-    while k < 20 {
+    for k in 1..20 {
         if rest < 10 {
             return k;
         }
         rest /= 10;
-        k += 1;
     }
     20
 }
@@ -106,63 +124,35 @@ fn put_by_fours(out: &mut [u8], n: u64, count: usize)
 }
 
 // `n` in base ten at the start of `out`, with no space before it; refused with 4 where `out` is shorter than that.
-fn push_digits(out: &mut [u8], n: u64) -> Written
-    ensures { OneText (first_no (room_for (digits n) out.old ∷ [])) (digits n) out.old out.new result }
+fn push_digits(out: &mut [u8], n: u64) -> Result<usize, Refusal>
+    ensures { OneText (first_no (room_for (digits n) out.old ∷ [])) (digits n) out.old out.new (written_of result) }
 {
     if n < 10 {
         if out.len() == 0 {
-            return Written {
-                refused: 4,
-                length: 0,
-            };
+            return Err(Refusal::TextTooShort);
         }
         out[0] = (48 + n) as u8;
-        return Written {
-            refused: 0,
-            length: 1,
-        };
+        return Ok(1);
     }
     let length = count_by_fours(n);
     if out.len() < length {
-        return Written {
-            refused: 4,
-            length: 0,
-        };
+        return Err(Refusal::TextTooShort);
     }
     put_by_fours(out, n, length);
-    Written { refused: 0, length }
+    Ok(length)
 }
 
-// How many spaces stand before `count` digits.
-fn spaces_before(count: usize, width: usize) -> usize
-    ensures { result ≡ width - count }
+// The questions of a width and of a text of `length` bytes in a slice of `room`.
+fn ask(width: u32, length: usize, room: usize) -> Result<(), Refusal>
+    ensures { carried result ≡ first_no (width_in_range width ∷ question 4 (leb length room) ∷ []) }
 {
-    if count < width { width - count } else { 0 }
-}
-
-// The number of the first no to a width and to a text of `length` bytes in a slice of `room`; 0 where there is none.
-fn push_no(width: u32, length: usize, room: usize) -> u32
-    ensures { result ≡ first_no (width_in_range width ∷ question 4 (leb length room) ∷ []) }
-{
-    if width > 20 {
-        return 20;
+    if width > MOST_WIDTH {
+        return Err(Refusal::WidthTooLarge);
     }
     if room < length {
-        return 4;
+        return Err(Refusal::TextTooShort);
     }
-    0
-}
-
-// Spaces at the first `count` places.
-fn put_spaces(out: &mut [u8], count: usize)
-    requires { Room out.old 0 (replicate count 32) }
-    ensures { Wrote out.old out.new 0 (replicate count 32) count }
-{
-    let mut i: usize = 0;
-    while i < count {
-        out[i] = b' ';
-        i += 1;
-    }
+    Ok(())
 }
 
 // Spaces, and behind them `n`, which has `count` digits, at the start of `out`.
@@ -170,32 +160,26 @@ fn put_padded(out: &mut [u8], n: u64, count: usize, spaces: usize)
     requires { (count ≡ length (digits n)) × Room out.old 0 (replicate spaces 32 ++ digits n) }
     ensures { out.new ≡ filled out.old (replicate spaces 32 ++ digits n) }
 {
-    put_spaces(out, spaces);
+    out[..spaces].fill(b' ');
     put_by_fours(&mut out[spaces..], n, count);
 }
 
 // The same as `push_u64`, by the count of spaces.
-fn push_padded(out: &mut [u8], n: u64, width: u32) -> Written
-    ensures { Pushed n width out.old out.new result }
+fn push_padded(out: &mut [u8], n: u64, width: u32) -> Result<usize, Refusal>
+    ensures { Pushed n width out.old out.new (written_of result) }
 {
     let count = count_by_fours(n);
-    let spaces = spaces_before(count, width as usize);
+    let spaces = (width as usize).saturating_sub(count);
     let length = spaces + count;
-    let no = push_no(width, length, out.len());
-    if no != 0 {
-        return Written {
-            refused: no,
-            length: 0,
-        };
-    }
+    ask(width, length, out.len())?;
     put_padded(out, n, count, spaces);
-    Written { refused: 0, length }
+    Ok(length)
 }
 
-// `n` in base ten at the start of `out`, behind spaces where it has fewer digits than `width`: refused with 20 where `width` is above 20, then with 4 where
+// `n` in base ten at the start of `out`, after spaces where it has fewer digits than `width`: refused with 20 where `width` is above 20, then with 4 where
 // `out` is shorter than the text. Every number has a digit, so a width of 0 or 1 changes nothing.
-pub fn push_u64(out: &mut [u8], n: u64, width: u32) -> Written
-    ensures { Pushed n width out.old out.new result }
+pub fn push_u64(out: &mut [u8], n: u64, width: u32) -> Result<usize, Refusal>
+    ensures { Pushed n width out.old out.new (written_of result) }
 {
     if width < 2 {
         return push_digits(out, n);
@@ -203,12 +187,13 @@ pub fn push_u64(out: &mut [u8], n: u64, width: u32) -> Written
     push_padded(out, n, width)
 }
 
-// `n` at that width at the place `at` of a longer text; the next place is answered. It goes by `push_padded`, so that `push_u64`
-// has one caller in the library and the compiler copies it there: as a call its answer would go through memory.
+// `n` at that width at the place `at` of a longer text; the next place is answered.
 pub fn put_u64(out: &mut [u8], at: usize, n: u64, width: u32) -> usize
     requires { (width ≤ 20) × Room out.old at (padded width n) }
     ensures { Wrote out.old out.new at (padded width n) result }
 {
-    let written = push_padded(&mut out[at..], n, width);
-    at + written.length
+    let count = count_by_fours(n);
+    let spaces = (width as usize).saturating_sub(count);
+    put_padded(&mut out[at..], n, count, spaces);
+    at + (spaces + count)
 }

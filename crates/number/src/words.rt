@@ -10,10 +10,7 @@ pub(crate) fn store_word(buf: &mut [u8], k: usize, w: u32)
     requires { k + 4 ≤ length buf.old }
     ensures { buf.new ≡ sets buf.old k (word_bytes w) }
 {
-    buf[k] = (w % 256) as u8;
-    buf[k + 1] = (w / 256 % 256) as u8;
-    buf[k + 2] = (w / 65536 % 256) as u8;
-    buf[k + 3] = (w / 16777216) as u8;
+    buf[k..k + 4].copy_from_slice(&w.to_le_bytes());
 }
 
 // The word of the byte `b`, or of nothing if it is 0, and then of the text of `w`.
@@ -44,10 +41,8 @@ fn set_ten(words: &mut [u32], tens: usize)
     ensures { PlacesSet (number_word (10 * tens)) (10 * tens) 10 words.old words.new }
 {
     let first = first_byte(tens);
-    let mut last: usize = 0;
-    while last < 10 {
+    for last in 0..10 {
         words[10 * tens + last] = word_before(first, word_before((48 + last) as u8, 0));
-        last += 1;
     }
 }
 
@@ -56,9 +51,7 @@ pub fn set_numbers(words: &mut [u32])
     requires { 100 ≤ length words.old }
     ensures { PlacesSet (number_word 0) 0 100 words.old words.new }
 {
-    let mut tens: usize = 0;
-    while tens < 10 {
+    for tens in 0..10 {
         set_ten(words, tens);
-        tens += 1;
     }
 }

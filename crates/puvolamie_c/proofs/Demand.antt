@@ -7,11 +7,14 @@ use native.Mathlib.Omega.{arith}
 use lib.Dec.{eqb}
 use lib.ListN.{take}
 use borrow.Author.Tests.{eqb-true}
+use Rattle.std.specs.Prelude.{Option, Some, None}
 use Rattle.number.specs.declared.Written.{Written}
 use Rattle.number.proofs.Split.{split}
 use Rattle.rules.specs.Chart.{classes}
 use Rattle.rules.specs.Calls.{level_number}
+use Rattle.rules.specs.Kinds.{mode_number}
 use Rattle.rules.specs.Demand.{SameClasses}
+use Rattle.rules.specs.declared.Kind.{Kind}
 use Rattle.rules.specs.declared.Kind.TheVariants.{Sn as sn, Standard as standard}
 use Rattle.rules.specs.declared.BreakdownMode.{BreakdownMode}
 use Rattle.rules.specs.declared.BreakdownMode.TheVariants as Mode
@@ -20,15 +23,15 @@ use Rattle.rules.specs.declared.StreamBreakdownLevel.TheVariants as Level
 use Rattle.rules.proofs.Demand.{same-classes}
 use Rattle.chart_texts.proofs.Same.{same-breakdown}
 use Rattle.acceptance.specs.SecondHalf.{TextWritten, single}
-use Rattle.puvolamie_c.specs.Numbers.{Meant, kind, none, mode_number, mode_kind, level_kind, OneKind}
+use Rattle.puvolamie_c.specs.Numbers.{mode_kind, level_kind, OneKind}
 use Rattle.puvolamie_c.specs.Demand.{SameAnswers, Demand}
 use Rattle.puvolamie_c.proofs.Numbers.{mode-none, level-none}
 
 -- charts of equal classes, the same number and equal lent bytes
-same_kind : (x : Meant) (a b : List ℕ) → classes a ≡ classes b → (old new₁ new₂ : List ℕ) (r₁ r₂ : Written)
+same_kind : (x : Option Kind) (a b : List ℕ) → classes a ≡ classes b → (old new₁ new₂ : List ℕ) (r₁ r₂ : Written)
     → OneKind x a old new₁ r₁ → OneKind x b old new₂ r₂ → (r₁ ≡ r₂) × (new₁ ≡ new₂)
-same_kind (kind k) a b e old new₁ new₂ r₁ r₂ p q = same-breakdown a b e k p q
-same_kind none a b e old new₁ new₂ r₁ r₂ p q = (p.answer ∙ sym q.answer, p.bytes ∙ sym q.bytes)
+same_kind (Some k) a b e old new₁ new₂ r₁ r₂ p q = same-breakdown a b e k p q
+same_kind None a b e old new₁ new₂ r₁ r₂ p q = (p.answer ∙ sym q.answer, p.bytes ∙ sym q.bytes)
 
 same-answers : (a b : List ℕ) → SameClasses a b → SameAnswers a b
 same-answers a b s =
@@ -40,10 +43,10 @@ same-answers a b s =
     }
 
 module _ (m old new : List ℕ) (r : Written) where
-  no_kind : {x : Meant} → x ≡ none → OneKind x m old new r → (r ≡ record { refused = 100; length = 0 }) × (new ≡ old)
-  no_kind e p = let q : OneKind none m old new r = rw e at p in (q.answer, q.bytes)
+  no_kind : {x : Option Kind} → x ≡ None → OneKind x m old new r → (r ≡ record { refused = 100; length = 0 }) × (new ≡ old)
+  no_kind e p = let q : OneKind None m old new r = rw e at p in (q.answer, q.bytes)
 
-  never-accepted : OneKind none m old new r → r.refused ≡ 0 → ⊥
+  never-accepted : OneKind None m old new r → r.refused ≡ 0 → ⊥
   never-accepted p z = let e : ◌≡◌ {A = ℕ} 100 0 = sym (ap (λ (w : Written). w.refused) p.answer) ∙ z in omega arith
 
   mode-written : (n : ℕ) → OneKind (mode_kind n) m old new r → r.refused ≡ 0

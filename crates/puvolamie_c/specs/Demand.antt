@@ -5,12 +5,13 @@
 use Rattle.std.specs.Prelude.{ℕ, ◌<◌, ◌≡◌, ◌⊎◌, List, take}
 use Rattle.number.specs.declared.Written.{Written}
 use Rattle.rules.specs.Calls.{level_number}
+use Rattle.rules.specs.Kinds.{mode_number}
 use Rattle.rules.specs.Demand.{SameClasses}
 use Rattle.rules.specs.declared.Kind.TheVariants.{Sn as sn, Standard as standard}
 use Rattle.rules.specs.declared.BreakdownMode.{BreakdownMode}
 use Rattle.rules.specs.declared.StreamBreakdownLevel.{StreamBreakdownLevel}
 use Rattle.acceptance.specs.SecondHalf.{TextWritten}
-use Rattle.puvolamie_c.specs.Numbers.{mode_number, mode_kind, level_kind, OneKind}
+use Rattle.puvolamie_c.specs.Numbers.{mode_kind, level_kind, OneKind}
 use Rattle.puvolamie_c.specs.Parts.{active_range}
 
 -- Demand 1: a number that stands for no mode, or for no level, is refused by 100, "with every lent slice untouched"

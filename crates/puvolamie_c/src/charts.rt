@@ -33,7 +33,7 @@ pub struct ActiveRange {
 pub extern "C" fn pv_categorize_measure_density(d: u32) -> u32
     ensures { result ≡ class_of d }
 {
-    class_of(d) as u32
+    u32::from(class_of(d))
 }
 
 #[unsafe(no_mangle)]
@@ -52,35 +52,35 @@ pub extern "C" fn pv_active_range(m: &[u32]) -> ActiveRange
 pub extern "C" fn pv_compute_stream_counts(m: &[u32]) -> CountsAnswer
     ensures { result ≡ counts_answer m.now }
 {
-    compute_stream_counts(m)
+    CountsAnswer::from(compute_stream_counts(m))
 }
 
 #[unsafe(no_mangle)]
 pub extern "C" fn pv_share(m: &[u32]) -> ShareAnswer
     ensures { result ≡ share_answer m.now }
 {
-    share(m)
+    ShareAnswer::from(share(m))
 }
 
 #[unsafe(no_mangle)]
 pub extern "C" fn pv_alike(a: &[u32], b: &[u32]) -> AlikeAnswer
     ensures { result ≡ alike_answer a.now b.now }
 {
-    alike(a, b)
+    AlikeAnswer::from(alike(a, b))
 }
 
 #[unsafe(no_mangle)]
 pub extern "C" fn pv_stream_sequences(m: &[u32], out: &mut [StreamSegment]) -> SegmentsAnswer
     ensures { Segmented m.now out.old out.new result }
 {
-    stream_sequences(m, out)
+    SegmentsAnswer::from(stream_sequences(m, out))
 }
 
 #[unsafe(no_mangle)]
 pub extern "C" fn pv_segment_at(m: &[u32], k: usize) -> NthSegment
     ensures { result ≡ nth_segment k m.now }
 {
-    segment_at(m, k)
+    NthSegment::from(segment_at(m, k))
 }
 
 // The token view: a caller keeps the measures that are left, asks for step number 0 of them and moves on by the token's length. A refused
@@ -89,19 +89,19 @@ pub extern "C" fn pv_segment_at(m: &[u32], k: usize) -> NthSegment
 pub extern "C" fn pv_nth_token(m: &[u32], k: usize) -> NthToken
     ensures { result ≡ nth_answer k m.now }
 {
-    nth_token(m, k)
+    NthToken::from(nth_token(m, k))
 }
 
 #[unsafe(no_mangle)]
 pub extern "C" fn pv_read_chart_record(record: &[u8], densities: &mut [u32]) -> RecordAnswer
     ensures { ReadRecord «record».now densities.old densities.new result }
 {
-    read_chart_record(record, densities)
+    RecordAnswer::from(read_chart_record(record, densities))
 }
 
 #[unsafe(no_mangle)]
 pub extern "C" fn pv_read_note_rows(text: &[u8], densities: &mut [u32]) -> RowsAnswer
     ensures { ReadNoteRows text.now densities.old densities.new result }
 {
-    read_note_rows(text, densities)
+    RowsAnswer::from(read_note_rows(text, densities))
 }

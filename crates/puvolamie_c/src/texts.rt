@@ -1,7 +1,7 @@
 // The calls that write texts. A mode, a level and a class pass as their numbers.
-ghost use Rattle.std.specs.Prelude.{◌≡◌, ◌≤◌, length};
+ghost use Rattle.std.specs.Prelude.{◌≡◌, length};
 ghost use Rattle.number.specs.Pushed.{Pushed};
-ghost use Rattle.rules.specs.Chart.{class_number};
+ghost use Rattle.number.specs.Refusal.{written_of};
 ghost use Rattle.rules.specs.Texts.{sn_kinds, standard_kinds};
 ghost use Rattle.counts_line.specs.Promises.{BoardCounts};
 ghost use Rattle.run_symbol.specs.Promises.{RunSymbol};
@@ -10,19 +10,19 @@ ghost use Rattle.label.specs.Promises.{Label};
 ghost use Rattle.stream_outputs.specs.Promises.{Outputs};
 ghost use Rattle.sheet_lines.specs.Sheet.{Printed};
 ghost use Rattle.sn_to_standard.specs.Promises.{SnToStandard};
-ghost use Rattle.puvolamie_c.specs.Numbers.{class_at, mode_number, mode_kind, level_kind, OneKind};
+ghost use Rattle.puvolamie_c.specs.Numbers.{class_at, mode_kind, level_kind, OneKind};
 ghost use Rattle.puvolamie_c.specs.Parts.{pair_part};
 
 use chart_texts::ThreeWritten;
 use chart_texts::single::{generate_breakdown, stream_breakdown};
 use chart_texts::three::{generate_breakdowns, stream_breakdowns};
 use counts_line::board_counts;
-use label::level::level_at;
 use label::{LabelWritten, label};
+use number::refusal::Refusal;
 use number::{Written, push_u64};
-use rules::{BreakdownMode, RunDensity};
+use rules::{BreakdownMode, RunDensity, StreamBreakdownLevel};
 use run_symbol::format_run_symbol;
-use sheet_lines::{Sheet, print_sheet};
+use sheet_lines::{Sheet, put_answer};
 use sn_to_standard::sn_to_standard;
 use stream_outputs::{StreamOutputs, compute_stream_outputs};
 
@@ -38,28 +38,22 @@ pub struct PairPart {
 pub extern "C" fn pv_push_u64(out: &mut [u8], n: u64, width: u32) -> Written
     ensures { Pushed n width out.old out.new result }
 {
-    push_u64(out, n, width)
+    Written::from(push_u64(out, n, width))
 }
 
 #[unsafe(no_mangle)]
 pub extern "C" fn pv_board_counts(m: &[u32], out: &mut [u8]) -> Written
     ensures { BoardCounts m.now out.old out.new result }
 {
-    board_counts(m, out)
+    Written::from(board_counts(m, out))
 }
 
-// The class with the number n.
-fn class_at(n: u32) -> RunDensity
-    requires { n ≤ 4 }
-    ensures { class_number result ≡ n }
+// By the class's number.
+fn symbol_of(class: u32, length: u64, star: bool, out: &mut [u8]) -> Result<usize, Refusal>
+    ensures { RunSymbol (class_at class) length star out.old out.new (written_of result) }
 {
-    match n {
-        0 => RunDensity::Break,
-        1 => RunDensity::Run16,
-        2 => RunDensity::Run20,
-        3 => RunDensity::Run24,
-        _ => RunDensity::Run32,
-    }
+    let class = RunDensity::try_from(class)?;
+    format_run_symbol(class, length, star, out)
 }
 
 #[unsafe(no_mangle)]
@@ -71,69 +65,51 @@ pub extern "C" fn pv_format_run_symbol(
 ) -> Written
     ensures { RunSymbol (class_at class) length star out.old out.new result }
 {
-    if class > 4 {
-        return Written {
-            refused: 5,
-            length: 0,
-        };
-    }
-    format_run_symbol(class_at(class), length, star, out)
+    Written::from(symbol_of(class, length, star, out))
 }
 
-// A number that stands for no mode, or for no level.
-fn no_kind() -> Written
-    ensures { result ≡ record { refused = 100; length = 0 } }
+// By the mode's number.
+fn breakdown_of(m: &[u32], mode: u32, out: &mut [u8]) -> Result<usize, Refusal>
+    ensures { OneKind (mode_kind mode) m.now out.old out.new (written_of result) }
 {
-    Written {
-        refused: 100,
-        length: 0,
-    }
-}
-
-// The mode with the number n.
-fn mode_at(n: u32) -> BreakdownMode
-    requires { n ≤ 2 }
-    ensures { mode_number result ≡ n }
-{
-    match n {
-        0 => BreakdownMode::Detailed,
-        1 => BreakdownMode::Partial,
-        _ => BreakdownMode::Simplified,
-    }
+    let mode = BreakdownMode::try_from(mode)?;
+    generate_breakdown(m, mode, out)
 }
 
 #[unsafe(no_mangle)]
 pub extern "C" fn pv_generate_breakdown(m: &[u32], out: &mut [u8], mode: u32) -> Written
     ensures { OneKind (mode_kind mode) m.now out.old out.new result }
 {
-    if mode > 2 {
-        return no_kind();
-    }
-    generate_breakdown(m, mode_at(mode), out)
+    Written::from(breakdown_of(m, mode, out))
+}
+
+// By the level's number.
+fn stream_breakdown_of(m: &[u32], level: u32, out: &mut [u8]) -> Result<usize, Refusal>
+    ensures { OneKind (level_kind level) m.now out.old out.new (written_of result) }
+{
+    let level = StreamBreakdownLevel::try_from(level)?;
+    stream_breakdown(m, level, out)
 }
 
 #[unsafe(no_mangle)]
 pub extern "C" fn pv_stream_breakdown(m: &[u32], out: &mut [u8], level: u32) -> Written
     ensures { OneKind (level_kind level) m.now out.old out.new result }
 {
-    if level == 0 || level > 4 {
-        return no_kind();
-    }
-    stream_breakdown(m, level_at(level), out)
+    Written::from(stream_breakdown_of(m, level, out))
 }
 
 #[unsafe(no_mangle)]
 pub extern "C" fn pv_generate_breakdowns(m: &[u32], out: &mut [u8]) -> ThreeWritten
     ensures { Breakdowns sn_kinds m.now out.old out.new result }
 {
-    generate_breakdowns(m, out)
+    ThreeWritten::from(generate_breakdowns(m, out))
 }
 
 #[unsafe(no_mangle)]
 pub extern "C" fn pv_stream_breakdowns(m: &[u32], out: &mut [u8]) -> ThreeWritten
     ensures { Breakdowns standard_kinds m.now out.old out.new result }
 {
-    stream_breakdowns(m, out)
+    ThreeWritten::from(stream_breakdowns(m, out))
 }
 
 #[unsafe(no_mangle)]
@@ -146,14 +122,14 @@ pub extern "C" fn pv_compute_stream_outputs(
     ensures { Outputs m.now classes.old classes.new
         lengths.old lengths.new out.old out.new result }
 {
-    compute_stream_outputs(m, classes, lengths, out)
+    StreamOutputs::from(compute_stream_outputs(m, classes, lengths, out))
 }
 
 #[unsafe(no_mangle)]
 pub extern "C" fn pv_label(m: &[u32], out: &mut [u8], width: usize) -> LabelWritten
     ensures { Label width m.now out.old out.new result }
 {
-    label(m, width, out)
+    LabelWritten::from(label(m, width, out))
 }
 
 #[unsafe(no_mangle)]
@@ -182,13 +158,18 @@ pub extern "C" fn pv_label_pair(first: &[u8], second: &[u8], width: usize) -> Pa
 pub extern "C" fn pv_sn_to_standard(sn: &[u8], out: &mut [u8]) -> Written
     ensures { SnToStandard sn.now out.old out.new result }
 {
-    sn_to_standard(sn, out)
+    Written::from(sn_to_standard(sn, out))
 }
 
-// What the program `sheet` prints for the bytes `input`.
+// What the program `sheet` prints for the bytes `input`: `print_sheet`, whose array a call would copy once more on the stack.
 #[unsafe(no_mangle)]
 pub extern "C" fn pv_print_sheet(input: &[u8]) -> Sheet
     ensures { Printed input.now result }
 {
-    print_sheet(input)
+    let mut sheet = Sheet {
+        bytes: [0; 66048],
+        length: 0,
+    };
+    sheet.length = put_answer(input, &mut sheet.bytes);
+    sheet
 }

@@ -1,103 +1,54 @@
 -- The loop of `check_fields` as lists: what is left to ask once some fields are passed. Nothing here speaks of code.
 -- Assumes nothing.
-use Prim.Native.Nat.{ℕ, zero, suc, ◌+◌, ◌≤◌}
-use mathlib.Core.Path.{◌≡◌, refl, sym, ◌∙◌}
+use Prim.Native.Nat.{ℕ, ◌+◌, ◌≤◌}
+use mathlib.Core.Path.{◌≡◌, ◌∙◌}
 use mathlib.Core.Bool.{Bool, true, false, cond}
 use mathlib.Core.List.{List}
 use native.Mathlib.Omega.{arith}
-use lib.Dec.{eqb}
-use lib.ListN.{length, drop, length-append}
-use borrow.Author.Tests.{eq-eqb, ne_eqb, eqb-true}
+use lib.ListN.{length, length-append}
 use Rattle.number.proofs.Split.{split}
-use Rattle.number.proofs.Questions.{refused-is}
-use Rattle.record.specs.Record.{end, fields_of, field_no, fields_no, densities, name_of}
-use Rattle.record.specs.Steps.{checked_fields, refused_fields}
-use Rattle.record.specs.declared.questions.Checked.{Checked}
-use Rattle.record.proofs.Fields.{payload, CutBy, WholeAt}
+use Rattle.record.specs.Record.{fields_of, field_no, fields_no, densities, name_of}
+use Rattle.record.specs.Steps.{Begins}
+use Rattle.record.specs.declared.field.Field.{Field}
 
--- an accepted name is the first field
-name-first : (first : Bool) (t : ℕ) (p : List ℕ) → field_no first t p ≡ 0 → t ≡ 1 → first ≡ true
-unfolding field_no
-name-first true t p h e = refl
-name-first false t p h e = absurd (omega (arith, rw e at h))
+-- an accepted name is the first field, and accepted densities are not
+module _ (first : Bool) (t : ℕ) (p : List ℕ) (yes : field_no first t p ≡ 0) where
+  name-first : 1 ≡ t → first ≡ true
+  unfolding field_no
+  name-first one = split first (λ e. e) (λ e. absurd (omega (arith, rw (e, ← one) at yes)))
 
--- any other accepted field has densities and is not the first
-else-densities : (first : Bool) (t : ℕ) (p : List ℕ) → field_no first t p ≡ 0 → (t ≡ 1 → ⊥) → (t ≡ 2) × (first ≡ false)
-unfolding field_no
-else-densities first t p h ne =
-    split (eqb t 2)
-    (λ e. let two = eqb-true t 2 e in (two, later first (rw two at h)))
-    (λ e. absurd (omega (arith, rw (ne_eqb t 1 ne, e) at h)))
-  where
-    later : (first : Bool) → field_no first 2 p ≡ 0 → first ≡ false
-    later true h = absurd (omega (arith, h))
-    later false h = refl
+  densities-later : 2 ≡ t → first ≡ false
+  unfolding field_no
+  densities-later two = split first (λ e. absurd (omega (arith, rw (e, ← two) at yes))) (λ e. e)
 
 module _ (bytes : List ℕ) where
-  -- the fields before `at` were accepted; they have `measures` densities, and the name of `name` bytes
-  pub record Checking (at measures name : ℕ) : Type 0 where
-    pub within : at ≤ length bytes
-    pub few : measures ≤ at
-    pub asked : fields_no true (fields_of bytes) ≡ fields_no (eqb at 0) (fields_of (drop at bytes))
-    pub counted : length (densities (fields_of bytes)) ≡ measures + length (densities (fields_of (drop at bytes)))
-    pub named : length (name_of (fields_of bytes)) ≡ cond (eqb at 0) (length (name_of (fields_of (drop at bytes)))) name
+  -- some fields were accepted; they have `measures` densities, and the name of `name` bytes. `left` follows them, and `first` is true where there are none
+  pub record Checking (left : List ℕ) (first : Bool) (measures name : ℕ) : Type 0 where
+    pub few : measures + length left ≤ length bytes
+    pub asked : fields_no true (fields_of bytes) ≡ fields_no first (fields_of left)
+    pub counted : length (densities (fields_of bytes)) ≡ measures + length (densities (fields_of left))
+    pub named : length (name_of (fields_of bytes)) ≡ cond first (length (name_of (fields_of left))) name
 
-  pub starts : Checking 0 0 0
-  starts = record { within = omega arith; few = omega arith; asked = refl; counted = omega arith; named = refl }
+-- a whole field is accepted
+module _ {bytes left rest : List ℕ} {first : Bool} {measures name : ℕ} (g : Checking bytes left first measures name) where
+  module _ {f : Field} (b : Begins left f rest) (yes : field_no first f.tag f.payload.now ≡ 0) where
+    asked-on : fields_no true (fields_of bytes) ≡ fields_no false (fields_of rest)
+    asked-on = g.asked ∙ rw (b.fields, yes)
 
-module _ {bytes : List ℕ} {at measures name : ℕ} (g : Checking bytes at measures name) where
-  refuse : (n : ℕ) {r : Checked} → fields_no (eqb at 0) (fields_of (drop at bytes)) ≡ n → (n ≡ 0 → ⊥) → r ≡ refused_fields n → r ≡ checked_fields bytes
-  refuse zero e ne k = absurd (ne refl)
-  refuse (suc n) e ne k = rw (g.asked ∙ e) k
+    pub a-name : 1 ≡ f.tag → Checking bytes rest false measures (length f.payload.now)
+    a-name one =
+        record {
+          few = omega (arith, g.few, b.sizes);
+          asked = asked-on;
+          counted = g.counted ∙ rw (b.fields, ← one);
+          named = g.named ∙ rw (b.fields, ← one, name-first first f.tag f.payload.now yes one);
+        }
 
-  -- at the end of an empty record
-  pub empty : {r : Checked} → fields_of (drop at bytes) ≡ end → at ≡ 0 → r ≡ refused_fields 10 → r ≡ checked_fields bytes
-  empty e z k = refuse 10 (rw (e, eq-eqb at 0 z)) (λ f. omega arith) k
-
-  -- at the end, with all fields accepted
-  pub done : fields_of (drop at bytes) ≡ end → (at ≡ 0 → ⊥) → record { refused = 0; measures = measures; name_length = name } ≡ checked_fields bytes
-  done e ne =
-      let no : fields_no true (fields_of bytes) ≡ 0 = g.asked ∙ rw (e, ne_eqb at 0 ne) in
-      let many : length (densities (fields_of bytes)) ≡ measures = omega (arith, rw e at g.counted) in
-      rw (no, many, rw (ne_eqb at 0 ne) at g.named)
-
-  -- at a cut field
-  pub cut_off : {n : ℕ} {r : Checked} → CutBy n (fields_of (drop at bytes)) → r ≡ refused_fields n → r ≡ checked_fields bytes
-  cut_off {n} c k = refuse n (c.asked (eqb at 0)) c.refused k
-
-  -- at a whole field
-  module _ {t s e : ℕ} (w : WholeAt bytes at t s e) {k : ℕ} (n : k ≡ field_no (eqb at 0) t (payload s e bytes)) where
-    pub turned_down : {r : Checked} → (k ≡ 0 → ⊥) → r ≡ refused_fields k → r ≡ checked_fields bytes
-    turned_down ne f = refuse k (rw (w.fields, ← n) (refused-is k (fields_no false (fields_of (drop e bytes))) k ne)) ne f
-
-    module _ (z : k ≡ 0) where
-      later : eqb e 0 ≡ false
-      later = ne_eqb e 0 (λ f. omega (arith, w.start, w.order))
-
-      none : field_no (eqb at 0) t (payload s e bytes) ≡ 0
-      none = sym n ∙ z
-
-      rest : fields_no true (fields_of bytes) ≡ fields_no (eqb e 0) (fields_of (drop e bytes))
-      rest = g.asked ∙ rw (w.fields, none, later)
-
-      pub a-name : t ≡ 1 → Checking bytes e measures (length (payload s e bytes))
-      a-name one =
-          let first = name-first (eqb at 0) t (payload s e bytes) none one in
-          record {
-            within = w.within;
-            few = omega (arith, g.few, w.start, w.order);
-            asked = rest;
-            counted = g.counted ∙ rw (w.fields, one);
-            named = g.named ∙ rw (first, later, w.fields, one);
-          }
-
-      pub some-densities : (t ≡ 1 → ⊥) → Checking bytes e (measures + length (payload s e bytes)) name
-      some-densities ne =
-          let two = else-densities (eqb at 0) t (payload s e bytes) none ne in
-          record {
-            within = w.within;
-            few = omega (arith, g.few, w.start, w.order, w.long);
-            asked = rest;
-            counted = g.counted ∙ rw (w.fields, two.0, length-append (payload s e bytes) (densities (fields_of (drop e bytes)))) (omega arith);
-            named = g.named ∙ rw (two.1, later);
-          }
+    pub some-densities : 2 ≡ f.tag → Checking bytes rest false (measures + length f.payload.now) name
+    some-densities two =
+        record {
+          few = omega (arith, g.few, b.sizes);
+          asked = asked-on;
+          counted = g.counted ∙ rw (b.fields, ← two, length-append f.payload.now (densities (fields_of rest))) (omega arith);
+          named = g.named ∙ rw (densities-later first f.tag f.payload.now yes two);
+        }

@@ -1,20 +1,19 @@
--- The fields of a record, by the place at which they begin. Nothing here speaks of code.
+-- The first of the fields of some bytes, and what follows it. Nothing here speaks of code.
 -- Assumes nothing.
 use Prim.Native.Nat.{ℕ, zero, suc, ◌+◌, ◌*◌, ◌-◌, ◌≤◌, ◌<◌}
-use mathlib.Core.Path.{◌≡◌, refl, sym, ap, ◌∙◌}
-use mathlib.Core.Logic.{◌≢◌}
-use mathlib.Core.Bool.{Bool, cond}
+use mathlib.Core.Path.{◌≡◌, refl, ap, ◌∙◌}
+use mathlib.Core.Logic.{inl, inr}
+use mathlib.Core.Bool.{cond}
 use mathlib.Core.List.{List, [], ◌∷◌}
-use native.Mathlib.Nat.{add-zero}
 use native.Mathlib.Omega.{arith}
 use lib.Dec.{leb}
-use lib.ListN.{length, take, drop, get_or, length-drop, drop_of_length-le}
-use lib.Seq.{drop-drop, get_or-drop, length-take-le}
-use borrow.Author.Tests.{le-leb, lt-leb, leb-true, leb-false}
-use Rattle.number.proofs.Split.{split, never}
-use Rattle.record.specs.Record.{Fields, end, head_cut, payload_cut, whole, fields_in, fields_of, densities, fields_no}
-use Rattle.record.specs.Steps.{first_at}
-use Rattle.record.specs.declared.field.Field.TheVariants.{End, Cut, Whole}
+use lib.ListN.{length, take, drop, get_or, length-drop}
+use lib.Seq.{length-take-le, take_all}
+use borrow.Author.Tests.{le-leb, lt-leb}
+use Rattle.number.specs.declared.refusal.Refusal.{Refusal}
+use Rattle.number.specs.declared.refusal.Refusal.TheVariants.{FieldCutShort, PayloadCut}
+use Rattle.record.specs.Record.{Fields, end, head_cut, payload_cut, whole, fields_in, fields_of, densities}
+use Rattle.record.specs.Steps.{IsCut}
 
 -- any bound will do
 enough : (k j : ℕ) (bytes : List ℕ) → length bytes ≤ k → length bytes ≤ j → fields_in k bytes ≡ fields_in j bytes
@@ -40,6 +39,12 @@ fields-head t u v bytes =
     let n = 256 * u + v in
     rw (enough (suc (suc (length bytes))) (length (drop n bytes)) (drop n bytes) (omega (arith, length-drop n bytes)) (omega arith))
 
+-- without a byte there is none
+pub fields-none : (bytes : List ℕ) → length bytes ≡ 0 → (fields_of bytes ≡ end) × (bytes ≡ [])
+unfolding fields_of
+fields-none [] h = (refl, refl)
+fields-none (b ∷ bytes) h = absurd (omega arith)
+
 -- with fewer than three bytes its head is cut
 pub fields-few : (bytes : List ℕ) → 0 < length bytes → length bytes < 3 → fields_of bytes ≡ head_cut
 unfolding fields_of
@@ -48,122 +53,46 @@ fields-few (t ∷ []) g h = refl
 fields-few (t ∷ u ∷ []) g h = refl
 fields-few (t ∷ u ∷ v ∷ bytes) g h = absurd (omega arith)
 
-heads : (bytes : List ℕ) → 3 ≤ length bytes → bytes ≡ get_or bytes 0 0 ∷ get_or bytes 1 0 ∷ get_or bytes 2 0 ∷ drop 3 bytes
-heads [] h = absurd (omega arith)
-heads (t ∷ []) h = absurd (omega arith)
-heads (t ∷ u ∷ []) h = absurd (omega arith)
-heads (t ∷ u ∷ v ∷ bytes) h = refl
+-- the length that a field's head says
+abbrev pub long : List ℕ → ℕ
+long bytes = 256 * get_or bytes 1 0 + get_or bytes 2 0
 
-module _ (bytes : List ℕ) (at : ℕ) where
-  abbrev long : ℕ
-  long = 256 * get_or bytes (at + 1) 0 + get_or bytes (at + 2) 0
+head : (bytes : List ℕ) → 3 ≤ length bytes
+    → fields_of bytes
+    ≡ cond (leb (long bytes) (length (drop 3 bytes)))
+    (whole (get_or bytes 0 0) (take (long bytes) (drop 3 bytes)) (fields_of (drop (long bytes) (drop 3 bytes)))) payload_cut
+head [] h = absurd (omega arith)
+head (t ∷ []) h = absurd (omega arith)
+head (t ∷ u ∷ []) h = absurd (omega arith)
+head (t ∷ u ∷ v ∷ bytes) h = fields-head t u v bytes
 
-  left : length (drop at bytes) ≡ length bytes - at
-  left = length-drop at bytes
+module _ (bytes : List ℕ) where
+  -- what first_field answers with fewer than three bytes
+  pub headless : 0 < length bytes → length bytes < 3 → IsCut (fields_of bytes) FieldCutShort
+  headless g h = inl (fields-few bytes g h, refl)
 
-  pub at-end : length bytes - at ≡ 0 → fields_of (drop at bytes) ≡ end
-  unfolding fields_of
-  at-end h = rw (drop_of_length-le bytes {i = at} (omega arith))
+  -- the bytes after three, as a slice pattern gives them
+  abbrev pub after : List ℕ
+  after = take (length bytes - 3) (drop 3 bytes)
 
-  pub at-few : 0 < length bytes - at → length bytes - at < 3 → fields_of (drop at bytes) ≡ head_cut
-  at-few g h = fields-few (drop at bytes) (rw left g) (rw left h)
+  module _ (h : 3 ≤ length bytes) (n : ℕ) (e : n ≡ get_or bytes 1 0 * 256 + get_or bytes 2 0) where
+    all : after ≡ drop 3 bytes
+    all = take_all (length bytes - 3) (drop 3 bytes) (simp length-drop (omega arith))
 
-  three : 3 ≤ length bytes - at → drop at bytes ≡ get_or bytes at 0 ∷ get_or bytes (at + 1) 0 ∷ get_or bytes (at + 2) 0 ∷ drop (at + 3) bytes
-  three h = heads (drop at bytes) (rw left h) ∙ simp (get_or-drop, drop-drop, add-zero)
+    length-is : n ≡ long bytes
+    length-is = omega arith
 
-  pub at_head : 3 ≤ length bytes - at
-      → fields_of (drop at bytes)
-      ≡ cond (leb long (length bytes - at - 3)) (whole (get_or bytes at 0) (take long (drop (at + 3) bytes)) (fields_of (drop (at + 3 + long) bytes))) payload_cut
-  at_head h =
-      let r : length (drop (at + 3) bytes) ≡ length bytes - at - 3 = omega (arith, length-drop (at + 3) bytes) in
-      let head = fields-head (get_or bytes at 0) (get_or bytes (at + 1) 0) (get_or bytes (at + 2) 0) (drop (at + 3) bytes) in
-      ap fields_of (three h) ∙ head ∙ rw (r, drop-drop long (at + 3) bytes)
-
--- what stands from s up to e
-abbrev pub payload : ℕ → ℕ → List ℕ → List ℕ
-payload s e bytes = take (e - s) (drop s bytes)
-
--- a whole field at the place `at`, with its payload from s up to e
-pub record WholeAt (bytes : List ℕ) (at t s e : ℕ) : Type 0 where
-  pub start : s ≡ at + 3
-  pub order : s ≤ e
-  pub within : e ≤ length bytes
-  pub long : length (payload s e bytes) ≡ e - s
-  pub fields : fields_of (drop at bytes) ≡ whole t (payload s e bytes) (fields_of (drop e bytes))
-
-module _ (bytes : List ℕ) (at : ℕ) where
-  -- what field_at answers at the end
-  pub ended : length bytes - at ≡ 0 → End ≡ first_at at (fields_of (drop at bytes))
-  ended h = rw (at-end bytes at h)
-
-  -- with fewer than three bytes left
-  pub headless : (length bytes - at ≡ 0 → ⊥) → length bytes - at < 3 → Cut 8 ≡ first_at at (fields_of (drop at bytes))
-  headless g h = rw (at-few bytes at (omega (arith, g)) h)
-
-  module _ (n : ℕ) (e : n ≡ long bytes at) (h : 3 ≤ length bytes - at) where
     -- with less than the payload left
-    pub short : length bytes - at - 3 < n → Cut 17 ≡ first_at at (fields_of (drop at bytes))
-    short g = rw (at_head bytes at h, ← e, lt-leb n (length bytes - at - 3) g)
+    pub short : length after < n → IsCut (fields_of bytes) PayloadCut
+    short g = let f = rw all at g in inr (head bytes h ∙ rw (← length-is, lt-leb n (length (drop 3 bytes)) f), refl)
 
     -- at a whole field
-    module _ (g : n ≤ length bytes - at - 3) where
-      at-whole : fields_of (drop at bytes) ≡ whole (get_or bytes at 0) (take n (drop (at + 3) bytes)) (fields_of (drop (at + 3 + n) bytes))
-      at-whole = at_head bytes at h ∙ rw (← e, le-leb n (length bytes - at - 3) g)
+    pub found : n ≤ length after → fields_of bytes ≡ whole (get_or bytes 0 0) (take n after) (fields_of (drop n after))
+    found g = let f = rw all at g in rw all (head bytes h ∙ rw (← length-is, le-leb n (length (drop 3 bytes)) f))
 
-      pub found : Whole (get_or bytes at 0) (at + 3) (at + 3 + n) ≡ first_at at (fields_of (drop at bytes))
-      found = rw (at-whole, length-take-le n (drop (at + 3) bytes) (rw (length-drop (at + 3) bytes) (omega arith)))
+    pub sizes : n ≤ length after → 3 + length (take n after) + length (drop n after) ≡ length bytes
+    sizes g = omega (arith, length-take-le n after g, length-drop n after, rw all at g, ap length all, length-drop 3 bytes)
 
--- what End means: nothing is left
-pub is-end : (at : ℕ) (fs : Fields) → End ≡ first_at at fs → fs ≡ end
-is-end at end a = refl
-is-end at head_cut a = never (cc)
-is-end at payload_cut a = never (cc)
-is-end at (whole t p fs) a = never (cc)
-
--- a cut field, of whichever kind: it has the number n, and no density follows
-pub record CutBy (n : ℕ) (fs : Fields) : Type 0 where
-  pub asked : (first : Bool) → fields_no first fs ≡ n
-  pub refused : n ≢ 0
-  pub none : densities fs ≡ []
-
--- what Cut means
-pub is_cut : (at n : ℕ) (fs : Fields) → Cut n ≡ first_at at fs → CutBy n fs
-is_cut at n end a = never (cc)
-is_cut at n head_cut a = let e : 8 ≡ n = cc in record { asked = λ first. e; refused = λ z. omega (arith, e); none = refl }
-is_cut at n payload_cut a = let e : 17 ≡ n = cc in record { asked = λ first. e; refused = λ z. omega (arith, e); none = refl }
-is_cut at n (whole t p fs) a = never (cc)
-
--- what Whole means: a whole field is there
-module _ (bytes : List ℕ) (at t s e : ℕ) (a : Whole t s e ≡ first_at at (fields_of (drop at bytes))) where
-  not_end : End ≡ first_at at (fields_of (drop at bytes)) → WholeAt bytes at t s e
-  not_end b = never (cc)
-
-  not-cut : (n : ℕ) → Cut n ≡ first_at at (fields_of (drop at bytes)) → WholeAt bytes at t s e
-  not-cut n b = never (cc)
-
-  there : (n : ℕ) → n ≡ long bytes at → 3 ≤ length bytes - at → n ≤ length bytes - at - 3 → WholeAt bytes at t s e
-  there n f h g =
-      let b : Whole t s e ≡ Whole (get_or bytes at 0) (at + 3) (at + 3 + n) = a ∙ sym (found bytes at n f h g) in
-      let s-is : s ≡ at + 3 = cc in
-      let e-is : e ≡ at + 3 + n = cc in
-      let n-is : n ≡ e - s = omega arith in
-      let t-is : get_or bytes at 0 ≡ t = cc in
-      record {
-        start = s-is;
-        order = omega arith;
-        within = omega arith;
-        long = length-take-le (e - s) (drop s bytes) (rw (length-drop s bytes) (omega arith));
-        fields = rw (← n-is, s-is, e-is, ← t-is) (at-whole bytes at n f h g);
-      }
-
-  pub whole-at : WholeAt bytes at t s e
-  whole-at =
-      let n = long bytes at in
-      let left = length bytes - at in
-      split (leb 3 left)
-      (λ h. split (leb n (left - 3))
-      (λ g. there n refl (leb-true 3 left h) (leb-true n (left - 3) g))
-      (λ g. not-cut 17 (short bytes at n refl (leb-true 3 left h) (leb-false n (left - 3) g))))
-      (λ h. split (leb 1 left)
-      (λ g. not-cut 8 (headless bytes at (λ z. omega (arith, leb-true 1 left g)) (leb-false 3 left h)))
-      (λ g. not_end (ended bytes at (omega (arith, leb-false 1 left g)))))
+-- no density follows a cut field
+pub cut-none : {fs : Fields} {e : Refusal} → IsCut fs e → densities fs ≡ []
+cut-none c = elim c [ inl a ↦ rw a.0 | inr a ↦ rw a.0 ]

@@ -13,12 +13,12 @@ use Rattle.number.specs.Questions.{accepted}
 use Rattle.number.proofs.Split.{split}
 use Rattle.record.specs.Record.{Fields, end, head_cut, payload_cut, whole, fields_of, is_name, field_no, fields_no, densities, name_of, record_no}
 use Rattle.rules.specs.Chart.{densities_no}
-use Rattle.record.proofs.Fields.{fields-few, fields-head, at-end}
+use Rattle.record.proofs.Fields.{fields-none, fields-few, fields-head}
 use Rattle.record.proofs.Sizes.{Sized, sized}
 
 -- the name is what stands behind the first three bytes
 pub name-at : (bytes : List ℕ) → take (length (name_of (fields_of bytes))) (drop 3 bytes) ≡ name_of (fields_of bytes)
-name-at [] = rw (at-end [] 0 refl)
+name-at [] = rw (fields-none [] refl).0
 name-at (t ∷ []) = rw (fields-few (t ∷ []) (omega arith) (omega arith))
 name-at (t ∷ u ∷ []) = rw (fields-few (t ∷ u ∷ []) (omega arith) (omega arith))
 name-at (t ∷ u ∷ v ∷ bytes) =

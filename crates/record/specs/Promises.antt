@@ -1,9 +1,17 @@
 -- The promise of the chart record reader.
 -- Assumes nothing.
-use Rattle.std.specs.Prelude.{ℕ, ◌≡◌, List, length}
+use Rattle.std.specs.Prelude.{ℕ, ◌≡◌, List, length, Result, Ok, Err}
 use Rattle.number.specs.Questions.{accepted, filled}
+use Rattle.number.specs.Refusal.{refusal_number}
+use Rattle.number.specs.declared.refusal.Refusal.{Refusal}
 use Rattle.record.specs.Record.{fields_of, densities, name_of, record_no}
+use Rattle.record.specs.declared.ChartRecord.{ChartRecord}
 use Rattle.record.specs.declared.RecordAnswer.{RecordAnswer}
+
+-- what read_chart_record answers in C: a refusal has only its number
+abbrev pub record_answer_of : Result ChartRecord Refusal → RecordAnswer
+record_answer_of (Ok r) = record { refused = 0; measures = r.measures; name_start = r.name_start; name_length = r.name_length }
+record_answer_of (Err e) = record { refused = refusal_number e; measures = 0; name_start = 0; name_length = 0 }
 
 -- read_chart_record: the first no, or the densities at the slice's start, with their number and the name's place and length
 pub record ReadRecord (bytes old new : List ℕ) (r : RecordAnswer) : Type 0 where

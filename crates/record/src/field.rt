@@ -1,45 +1,57 @@
 // The fields of a chart record, one by one.
-ghost use Rattle.std.specs.Prelude.{◌≡◌, ◌+◌, ◌*◌, drop};
+ghost use Rattle.std.specs.Prelude.{◌<◌, length, MatchResult};
+ghost use Rattle.std.specs.Iterator.{at_most};
 ghost use Rattle.record.specs.Record.{fields_of};
-ghost use Rattle.record.specs.Steps.{BytePlace, first_at};
+ghost use Rattle.record.specs.Steps.{Begins, IsCut, NextField};
 
-// What stands at a place of a record.
+use number::refusal::Refusal;
+
+// A whole field.
 #[derive(Clone, Copy)]
-pub enum Field {
-    // Nothing is left.
-    End,
-    // A field is cut, in its head or in its payload: the question's number.
-    Cut(u32),
-    // A whole field, with its payload from `start` up to `end`.
-    Whole { tag: u8, start: usize, end: usize },
+pub struct Field<'a> {
+    pub tag: u8,
+    pub payload: &'a [u8],
 }
 
-// A length of two bytes, high byte first.
-fn length_of(high: u8, low: u8) -> usize
-    ensures { result ≡ 256 * high + low }
+// The field that some bytes begin with, and the bytes after it. Question 8 is asked, then 17.
+fn first_field(bytes: &[u8]) -> Result<(Field<'_>, &[u8]), Refusal>
+    requires { 0 < length bytes.now }
+    ensures { MatchResult result (λ p. Begins bytes.now p.0 p.1.now) (IsCut (fields_of bytes.now)) }
 {
-    256 * (high as usize) + (low as usize)
+    let [tag, high, low, after @ ..] = bytes else {
+        return Err(Refusal::FieldCutShort);
+    };
+    let length = u16::from_be_bytes([*high, *low]);
+    let Some((payload, rest)) = after.split_at_checked(length as usize) else {
+        return Err(Refusal::PayloadCut);
+    };
+    Ok((Field { tag: *tag, payload }, rest))
 }
 
-// The field that begins at the place `at`. Question 8 is asked, then 17.
-pub fn field_at(bytes: &[u8], at: usize) -> Field
-    requires { BytePlace bytes.now at }
-    ensures { result ≡ first_at at (fields_of (drop at bytes.now)) }
-{
-    let left = bytes.len() - at;
-    if left == 0 {
-        return Field::End;
-    }
-    if left < 3 {
-        return Field::Cut(8);
-    }
-    let length = length_of(bytes[at + 1], bytes[at + 2]);
-    if left - 3 < length {
-        return Field::Cut(17);
-    }
-    Field::Whole {
-        tag: bytes[at],
-        start: at + 3,
-        end: at + 3 + length,
+// The fields of the bytes that are left; after a cut field none are.
+#[derive(Drop)]
+pub struct Fields<'a>(pub &'a [u8]);
+
+impl<'a> Iterator for Fields<'a> {
+    type Item = Result<Field<'a>, Refusal>;
+
+    ghost next_gives = { λ s r t. NextField s.0.now r t.0.now };
+
+    ghost remaining = { λ s. at_most (length s.0.now) };
+
+    fn next(&mut self) -> Option<Result<Field<'a>, Refusal>> {
+        if self.0.is_empty() {
+            return None;
+        }
+        match first_field(self.0) {
+            Ok((field, rest)) => {
+                self.0 = rest;
+                Some(Ok(field))
+            }
+            Err(refusal) => {
+                self.0 = &[];
+                Some(Err(refusal))
+            }
+        }
     }
 }

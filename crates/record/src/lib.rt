@@ -6,13 +6,24 @@ mod place;
 mod questions;
 
 ghost use Rattle.std.specs.Prelude.{◌≡◌};
-ghost use Rattle.record.specs.Steps.{refusal_of};
-ghost use Rattle.record.specs.Promises.{ReadRecord};
+ghost use Rattle.record.specs.Promises.{ReadRecord, record_answer_of};
 
 use crate::place::place_densities;
 use crate::questions::check_fields;
+use number::refusal::Refusal;
 
-// The refusal's number, 0 where the record is accepted; the number of densities; the name's place in the record, and its length.
+// The domain: a chart has at most so many measures.
+const MOST_MEASURES: usize = 1_048_576;
+
+// What a record holds: the number of densities; the name's place in the record, and its length.
+#[derive(Clone, Copy, Debug, PartialEq, Eq)]
+pub struct ChartRecord {
+    pub measures: usize,
+    pub name_start: usize,
+    pub name_length: usize,
+}
+
+// The same in C, after the refusal's number, 0 where the record is accepted.
 #[repr(C)]
 #[derive(Clone, Copy)]
 pub struct RecordAnswer {
@@ -22,37 +33,38 @@ pub struct RecordAnswer {
     pub name_length: usize,
 }
 
-// A refusal: all other numbers are 0.
-fn refusal(no: u32) -> RecordAnswer
-    ensures { result ≡ refusal_of no }
-{
-    RecordAnswer {
-        refused: no,
-        measures: 0,
-        name_start: 0,
-        name_length: 0,
+impl From<Result<ChartRecord, Refusal>> for RecordAnswer {
+    ghost from_gives = { λ r a. a ≡ record_answer_of r };
+
+    fn from(read: Result<ChartRecord, Refusal>) -> RecordAnswer {
+        match read {
+            Ok(record) => RecordAnswer {
+                refused: 0,
+                measures: record.measures,
+                name_start: record.name_start,
+                name_length: record.name_length,
+            },
+            Err(refusal) => RecordAnswer {
+                refused: refusal.number(),
+                measures: 0,
+                name_start: 0,
+                name_length: 0,
+            },
+        }
     }
 }
 
 // The densities of a chart record at the start of `densities`; nothing is written before all questions are answered.
-pub fn read_chart_record(record: &[u8], densities: &mut [u32]) -> RecordAnswer
-    ensures { ReadRecord «record».now densities.old densities.new result }
+pub fn read_chart_record(record: &[u8], densities: &mut [u32]) -> Result<ChartRecord, Refusal>
+    ensures { ReadRecord «record».now densities.old densities.new (record_answer_of result) }
 {
-    let checked = check_fields(record);
-    if checked.refused != 0 {
-        return refusal(checked.refused);
+    let read = check_fields(record)?;
+    if read.measures > MOST_MEASURES {
+        return Err(Refusal::TooManyMeasures);
     }
-    if 1048576 < checked.measures {
-        return refusal(1);
-    }
-    if densities.len() < checked.measures {
-        return refusal(12);
+    if densities.len() < read.measures {
+        return Err(Refusal::TooFewDensities);
     }
     place_densities(record, densities);
-    RecordAnswer {
-        refused: 0,
-        measures: checked.measures,
-        name_start: 3,
-        name_length: checked.name_length,
-    }
+    Ok(read)
 }

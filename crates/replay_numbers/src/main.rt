@@ -1,28 +1,24 @@
 // Prints by `push_u64`, one a line: 0; for each power of ten that a u64 holds the number before it, itself and the number
-// behind it; the largest u64.
+// after it; the largest u64.
 #![tactic(auto)]
 
-use chart_list::line::{put_bytes, put_number};
+use number::push_u64;
 use std::io;
 
-fn print_line(rt: &impl Print, n: u64) -> io::Result<()> {
-    let mut line = [0u8; 21];
-    let digits = put_number(&mut line, 0, n);
-    let end = put_bytes(&mut line, digits, b"\n");
-    rt.write_all(&line[..end])
+fn print_number(rt: &impl Print, n: u64) -> io::Result<()> {
+    // The newline stands there before, after the digits.
+    let mut line = [b'\n'; 21];
+    let length = push_u64(&mut line[..20], n, 0).unwrap_or(0);
+    rt.write_all(&line[..length + 1])
 }
 
 fn main(rt: HostRuntime) -> io::Result<()> {
-    print_line(&rt, 0)?;
-    let mut power: u64 = 1;
-    'powers: loop {
-        print_line(&rt, power - 1)?;
-        print_line(&rt, power)?;
-        print_line(&rt, power + 1)?;
-        if power > u64::MAX / 10 {
-            break;
+    print_number(&rt, 0)?;
+    for exponent in 0..20 {
+        let power = 10u64.pow(exponent);
+        for n in [power - 1, power, power + 1] {
+            print_number(&rt, n)?;
         }
-        power *= 10;
     }
-    print_line(&rt, u64::MAX)
+    print_number(&rt, u64::MAX)
 }

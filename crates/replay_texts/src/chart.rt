@@ -1,106 +1,126 @@
 // The lines of one chart.
-ghost use Rattle.std.specs.Prelude.{◌≤◌, length, IfOk};
-ghost use Rattle.chart_list.specs.Bounds.{Within, From};
-
-use crate::others::{compare_one, compare_three};
-use chart_list::line::{put_bytes, put_number};
-use chart_texts::single::stream_breakdown;
-use rules::{StreamBreakdownLevel, StreamCounts};
+use chart_list::line::{Spaced, numbers_of};
+use chart_texts::single::{generate_breakdown, stream_breakdown};
+use chart_texts::three::{generate_breakdowns, stream_breakdowns};
+use number::refusal::Refusal;
+use rules::{BreakdownMode, Kind, StreamBreakdownLevel};
 use std::io;
-use stream_outputs::compute_stream_outputs;
+use std::io::Write;
+use stream_outputs::{StreamOutputs, compute_stream_outputs};
+
+// Room for the texts of any 4,096 measures.
+const ROOM: usize = 69665;
+
+// Three texts of the pass, which stand end to end.
+#[derive(Clone, Copy)]
+struct Three<'a> {
+    texts: &'a [u8],
+    lengths: [usize; 3],
+}
 
 // The lines of the chart `m`, whose line in the list is `line`.
-pub fn print_chart(rt: &impl Print, line: &[u8], m: &[u32]) -> io::Result<()> {
+pub fn print_chart(out: &mut impl Write, line: &[u8], m: &[u32]) -> io::Result<()> {
     let mut classes = [0u8; 4096];
     let mut lengths = [0u32; 4096];
-    // Room for the texts of any 4,096 measures.
-    let mut texts = [0u8; 69665];
+    let mut texts = [0u8; ROOM];
     let answer = compute_stream_outputs(m, &mut classes, &mut lengths, &mut texts);
-    let counts = answer.counts;
-    let text_lengths = answer.lengths;
-    rt.write_all(b"chart ")?;
-    rt.write_all(line)?;
-    print_counts(rt, counts, answer.tokens)?;
-    let mut space = [0u8; 69665];
-    print_texts(rt, m, &texts, &text_lengths, &mut space)?;
-    print_total(rt, m)
-}
-
-fn print_counts(rt: &impl Print, counts: StreamCounts, tokens: usize) -> io::Result<()> {
-    let mut line = [0u8; 100];
-    let run16_end = put_number(&mut line, 0, counts.run16_streams as u64);
-    let run20_end = put(&mut line, run16_end, counts.run20_streams as u64);
-    let run24_end = put(&mut line, run20_end, counts.run24_streams as u64);
-    let run32_end = put(&mut line, run24_end, counts.run32_streams as u64);
-    let total_end = put(&mut line, run32_end, counts.total_breaks as u64);
-    let sn_end = put(&mut line, total_end, counts.sn_breaks as u64);
-    let tokens_end = put(&mut line, sn_end, tokens as u64);
-    let end = put_bytes(&mut line, tokens_end, b"\n");
-    rt.write_all(&line[..end])
-}
-
-// A space, and a number behind it.
-fn put(out: &mut [u8], at: usize, n: u64) -> usize {
-    let space_end = put_bytes(out, at, b" ");
-    put_number(out, space_end, n)
+    let outputs = StreamOutputs::from(answer);
+    let counts = numbers_of(outputs.counts);
+    out.write_all(b"chart ")?;
+    out.write_all(line)?;
+    let others = Spaced(&counts[1..6]);
+    writeln!(out, "{}{others} {}", counts[0], outputs.tokens)?;
+    print_texts(out, m, &texts, outputs.lengths)?;
+    print_total(out, m)
 }
 
 // The six texts that the pass wrote, beside what the other calls write.
 fn print_texts(
-    rt: &impl Print,
+    out: &mut impl Write,
     m: &[u32],
     texts: &[u8],
-    lengths: &[usize; 6],
-    space: &mut [u8],
+    lengths: [usize; 6],
 ) -> io::Result<()> {
-    let sn_end = print_three(rt, m, 0, texts, 0, lengths, space)?;
-    let end = print_three(rt, m, 3, texts, sn_end, lengths, space)?;
-    compare_three(rt, m, 0, &texts[0..sn_end], lengths, space)?;
-    compare_three(rt, m, 3, &texts[sn_end..end], lengths, space)
+    let [a, b, c, d, e, f] = lengths;
+    let (sn, rest) = first_three(texts, [a, b, c]);
+    let (standard, _) = first_three(rest, [d, e, f]);
+    let modes = [
+        BreakdownMode::Detailed,
+        BreakdownMode::Partial,
+        BreakdownMode::Simplified,
+    ];
+    print_three(out, m, sn, modes.map(Kind::Sn))?;
+    let levels = [
+        StreamBreakdownLevel::Detailed,
+        StreamBreakdownLevel::Partial,
+        StreamBreakdownLevel::Simple,
+    ];
+    print_three(out, m, standard, levels.map(Kind::Standard))?;
+    let sn_agrees = agrees(sn.texts, sn.lengths, |lent| generate_breakdowns(m, lent));
+    say_unless(out, sn_agrees, "three texts")?;
+    let standard_agrees = agrees(standard.texts, standard.lengths, |lent| {
+        stream_breakdowns(m, lent)
+    });
+    say_unless(out, standard_agrees, "three texts")
 }
 
-// Three texts, the first at the place `at`; the place behind the third is answered.
+// The first three texts, and what stands after them.
+fn first_three(texts: &[u8], lengths: [usize; 3]) -> (Three<'_>, &[u8]) {
+    let length = lengths
+        .iter()
+        .fold(0usize, |sum, length| sum.saturating_add(*length));
+    let (texts, rest) = texts.split_at(length.min(texts.len()));
+    (Three { texts, lengths }, rest)
+}
+
+// Three texts, one a line, each beside what the call for its kind writes.
 fn print_three(
-    rt: &impl Print,
+    out: &mut impl Write,
     m: &[u32],
-    first: usize,
-    texts: &[u8],
-    at: usize,
-    lengths: &[usize; 6],
-    space: &mut [u8],
-) -> io::Result<usize>
-    requires { (first ≤ 3) × Within texts.now at }
-    ensures { IfOk result (λ end. From texts.now at end) }
-{
-    let mut start = at;
-    for kind in first..first + 3 {
-        let end = text_end(texts, start, lengths[kind]);
-        print_line(rt, &texts[start..end])?;
-        compare_one(rt, m, kind, &texts[start..end], space)?;
-        start = end;
+    three: Three<'_>,
+    kinds: [Kind; 3],
+) -> io::Result<()> {
+    let mut rest = three.texts;
+    for (kind, length) in kinds.iter().zip(&three.lengths) {
+        let (text, after) = rest.split_at((*length).min(rest.len()));
+        out.write_all(text)?;
+        out.write_all(b"\n")?;
+        let agree = agrees(text, text.len(), |lent| match *kind {
+            Kind::Sn(mode) => generate_breakdown(m, mode, lent),
+            Kind::Standard(level) => stream_breakdown(m, level, lent),
+        });
+        say_unless(out, agree, "one text")?;
+        rest = after;
     }
-    Ok(start)
+    Ok(())
 }
 
-// The place behind a text of so many bytes at `at`.
-fn text_end(texts: &[u8], at: usize, length: usize) -> usize
-    requires { Within texts.now at }
-    ensures { From texts.now at result }
+// Does a call, lent a slice that the texts of the pass fill, write them and answer their lengths?
+fn agrees<T, F>(texts: &[u8], lengths: T, call: F) -> bool
+where
+    T: PartialEq + Drop,
+    F: FnOnce(&mut [u8]) -> Result<T, Refusal>,
+    requires { F.IsAlwaysCallable call }
 {
-    if texts.len() - at < length {
-        return texts.len();
+    let mut space = [0u8; ROOM];
+    let Some(lent) = space.get_mut(..texts.len()) else {
+        return false;
+    };
+    let answer = call(lent);
+    answer == Ok(lengths) && *lent == *texts
+}
+
+// A line that says that a call differs from the pass.
+fn say_unless(out: &mut impl Write, agrees: bool, texts: &str) -> io::Result<()> {
+    if !agrees {
+        writeln!(out, "differs: a call for {texts}")?;
     }
-    at + length
+    Ok(())
 }
 
-fn print_line(rt: &impl Print, text: &[u8]) -> io::Result<()> {
-    rt.write_all(text)?;
-    rt.write_all(b"\n")
-}
-
-fn print_total(rt: &impl Print, m: &[u32]) -> io::Result<()> {
-    let mut line = [0u8; 32];
-    let written = stream_breakdown(m, StreamBreakdownLevel::Total, &mut line);
-    let end = put_bytes(&mut line, written.length, b"\n");
-    rt.write_all(&line[..end])
+fn print_total(out: &mut impl Write, m: &[u32]) -> io::Result<()> {
+    // The newline stands there before, after the text.
+    let mut line = [b'\n'; 32];
+    let length = stream_breakdown(m, StreamBreakdownLevel::Total, &mut line[..31]).unwrap_or(0);
+    out.write_all(&line[..length + 1])
 }

@@ -3,28 +3,19 @@
 #![tactic(auto)]
 
 mod chart;
-mod others;
 
 use chart::print_chart;
-use chart_list::read::next_chart;
-use chart_list::stream::read_full;
+use chart_list::charts::read_chart;
+use chart_list::stream::read_list;
 use std::io;
-
-fn print_all(rt: &impl Print, list: &[u8]) -> io::Result<()> {
-    let mut measures = [0u32; 4096];
-    let mut at = 0;
-    while at < list.len() {
-        let chart = next_chart(list, at, &mut measures);
-        let count = chart.measures;
-        let next = chart.next;
-        print_chart(rt, &list[at..next], &measures[..count])?;
-        at = next;
-    }
-    Ok(())
-}
+use std::io::{BufWriter, Write};
 
 fn main(rt: HostRuntime) -> io::Result<()> {
-    let mut space = [0u8; 65536];
-    let length = read_full(&mut rt.stdin(), &mut space)?;
-    print_all(&rt, &space[..length])
+    let list = read_list(rt.alloc(), &mut rt.stdin(), 65536)?;
+    let mut out = BufWriter::new(rt.alloc(), rt.stdout())?;
+    for line in list.split_inclusive(|byte| *byte == b'\n') {
+        let measures = read_chart(rt.alloc(), line, 4096)?;
+        print_chart(&mut out, line, &measures)?;
+    }
+    out.flush()
 }

@@ -1,6 +1,6 @@
 -- Document 01's other calls: segments, token view, run symbol, share, label's choice.
 -- Assumes nothing.
-use Rattle.std.specs.Prelude.{ℕ, zero, suc, ◌+◌, ◌*◌, ◌/◌, Bool, true, false, cond, List, [], ◌∷◌, map, ltb, leb, eqb, length, drop}
+use Rattle.std.specs.Prelude.{ℕ, zero, suc, ◌+◌, ◌*◌, ◌/◌, Bool, true, false, cond, List, [], ◌∷◌, map, ltb, leb, eqb, length, drop, Option, Some, None}
 use Rattle.number.specs.Questions.{first_no, accepted}
 use Rattle.rules.specs.Chart.{in_domain, classes, Token, token, runs, flat, streams, counts}
 use Rattle.rules.specs.Reduced.{run, standard}
@@ -9,8 +9,6 @@ use Rattle.rules.specs.declared.StreamSegment.{StreamSegment}
 use Rattle.rules.specs.declared.ViewToken.{ViewToken}
 use Rattle.rules.specs.declared.StreamBreakdownLevel.{StreamBreakdownLevel}
 use Rattle.rules.specs.declared.StreamBreakdownLevel.TheVariants as Level
-use Rattle.rules.specs.declared.LabelChoice.{LabelChoice}
-use Rattle.rules.specs.declared.LabelChoice.TheVariants.{Fits, NoneFits}
 
 -- the segments of pieces and gaps of which the first begins at `at`
 abbrev pub segments_at : ℕ → List Token → List StreamSegment
@@ -64,11 +62,11 @@ level_number Level.Partial = 2
 level_number Level.Simple = 3
 level_number Level.Total = 4
 
--- the first of some levels whose text is no longer than the width
-abbrev pub first_within : ℕ → List ℕ → List StreamBreakdownLevel → LabelChoice
-first_within width m [] = NoneFits
-first_within width m (l ∷ ls) = cond (leb (length (text (standard l) m)) width) (Fits l) (first_within width m ls)
+-- the first of some levels whose text is no longer than the width, if there is one
+abbrev pub first_within : ℕ → List ℕ → List StreamBreakdownLevel → Option StreamBreakdownLevel
+first_within width m [] = None
+first_within width m (l ∷ ls) = cond (leb (length (text (standard l) m)) width) (Some l) (first_within width m ls)
 
--- Label's choice
-unfoldable pub label_choice : ℕ → List ℕ → LabelChoice
+-- Label's choice: the level that a label shows, if one fits
+unfoldable pub label_choice : ℕ → List ℕ → Option StreamBreakdownLevel
 label_choice width m = first_within width m levels

@@ -4,4 +4,5 @@ pub mod Slices
 pub mod Reduced
 pub mod Texts
 pub mod Calls
+pub mod Kinds
 pub mod Demand

@@ -1,9 +1,12 @@
-// The types of the answers, which the rules in specs/ speak of. No code: the rules are in specs/, the laws about them in proofs/.
+// The types of the answers, which the rules in specs/ speak of, and their numbers: the rules are in specs/, the laws about them in proofs/.
 #![tactic(auto)]
+
+pub mod kinds;
+pub mod tokens;
 
 // Counts, in the Rust's order; behind them the measures before and after the active part.
 #[repr(C)]
-#[derive(Clone, Copy)]
+#[derive(Clone, Copy, Debug, Default, PartialEq, Eq)]
 pub struct StreamCounts {
     pub run16_streams: u32,
     pub run20_streams: u32,
@@ -15,35 +18,35 @@ pub struct StreamCounts {
     pub tail: u32,
 }
 
-// Class of a measure.
-#[derive(Clone, Copy)]
+// Class of a measure, by the paper's number.
+#[derive(Clone, Copy, Debug, PartialEq, Eq)]
 pub enum RunDensity {
-    Run32,
-    Run24,
-    Run20,
-    Run16,
-    Break,
+    Run32 = 4,
+    Run24 = 3,
+    Run20 = 2,
+    Run16 = 1,
+    Break = 0,
 }
 
 // Mode of an SN text.
-#[derive(Clone, Copy)]
+#[derive(Clone, Copy, Debug, PartialEq, Eq)]
 pub enum BreakdownMode {
-    Detailed,
-    Partial,
-    Simplified,
+    Detailed = 0,
+    Partial = 1,
+    Simplified = 2,
 }
 
 // Level of a standard text.
-#[derive(Clone, Copy)]
+#[derive(Clone, Copy, Debug, PartialEq, Eq)]
 pub enum StreamBreakdownLevel {
-    Detailed,
-    Partial,
-    Simple,
-    Total,
+    Detailed = 1,
+    Partial = 2,
+    Simple = 3,
+    Total = 4,
 }
 
 // The seven texts: three SN modes and four standard levels.
-#[derive(Clone, Copy)]
+#[derive(Clone, Copy, Debug, PartialEq, Eq)]
 pub enum Kind {
     Sn(BreakdownMode),
     Standard(StreamBreakdownLevel),
@@ -51,7 +54,7 @@ pub enum Kind {
 
 // A piece, or a gap of 2 or more: its first measure, one past its last, and which of the two it is.
 #[repr(C)]
-#[derive(Clone, Copy)]
+#[derive(Clone, Copy, Debug, PartialEq, Eq)]
 pub struct StreamSegment {
     pub start: usize,
     pub end: usize,
@@ -60,16 +63,9 @@ pub struct StreamSegment {
 
 // What a step of the token view says: a token's class and length, or that the tokens have ended.
 #[repr(C)]
-#[derive(Clone, Copy)]
+#[derive(Clone, Copy, Debug, PartialEq, Eq)]
 pub struct ViewToken {
     pub ended: bool,
     pub class: u8,
     pub length: u32,
-}
-
-// The level that a label shows, if one fits.
-#[derive(Clone, Copy)]
-pub enum LabelChoice {
-    Fits(StreamBreakdownLevel),
-    NoneFits,
 }

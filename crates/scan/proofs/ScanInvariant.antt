@@ -51,10 +51,6 @@ longer m c (suc q) n i h same =
 place : (m : List ℕ) (most : ℕ) (s : List ℕ) {k : ℕ} → RoomForRuns m most s → k < length (runs (classes m)) → k < most + 17 → k < length s
 place m most s r h l = ⊎_elim (λ a. omega arith) (λ a. omega arith) r
 
-pub empty : (m : List ℕ) (most : ℕ) (cs ns : List ℕ) → length m ≡ 0 → FirstRuns m most cs cs ns ns (record { tokens = 0; next = 0 })
-empty [] most cs ns h = all_first [] most (record { number = refl; in_classes = refl; in_lengths = refl })
-empty (x ∷ m) most cs ns h = absurd (omega arith)
-
 module _ {m cs₀ ns₀ cs ns : List ℕ} {most c n k i : ℕ} (g : ScanInvariant m cs₀ ns₀ cs ns most c n k i) where
   -- there is a place for the pending token
   placed : (s : List ℕ) → RoomForRuns m most s → k < length s

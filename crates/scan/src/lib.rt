@@ -4,15 +4,15 @@
 ghost use Rattle.std.specs.Prelude.{◌≡◌, cond, eqb, length, ◌+◌, ◌≤◌, ◌<◌, ◌^◌};
 ghost use Rattle.rules.specs.Chart.{class_of, tokens};
 ghost use Rattle.counts.specs.Sums.{sums_of};
-ghost use Rattle.rules.specs.Slices.{paired};
-ghost use Rattle.scan.specs.Scan.{Bounded, OfClass, Steps, StepsTaken, ScanAsked, FirstRuns, Paired, TokenRoom, Scanned, RoomForTokens, FirstTokens};
+ghost use Rattle.rules.specs.Slices.{paired, total};
+ghost use Rattle.scan.specs.Scan.{Bounded, OfClass, Steps, StepsTaken, ScanAsked, FirstRuns, TokenRoom, Scanned, RoomForTokens, FirstTokens};
 
 use counts::{Sums, counted, wide};
 use measures::active::{active_behind, lead_in, skip};
 use rules::StreamCounts;
+use rules::tokens::Tokens;
 
 // What the scan answers: the counts and the number of tokens.
-#[repr(C)]
 #[derive(Clone, Copy)]
 pub struct ScanAnswer {
     pub counts: StreamCounts,
@@ -26,16 +26,13 @@ pub struct Taken {
     pub next: usize,
 }
 
-// The class of `d`, without a branch: the base-16 digits of one number, from the right, are the classes of the densities 0 to 3, 4 to 7
-// and so on up to 32, which stands for all above it.
+// The class of `d`, as the number that is lent to C, without a branch: the base-16 digits of one number, from the right, are the classes of the
+// densities 0 to 3, 4 to 7 and so on up to 32, which stands for all above it.
 fn class_at(d: u32) -> u8
     ensures { result ≡ class_of d }
 {
-    let mut x = d;
-    if x > 32 {
-        x = 32;
-    }
-    ((0x4_3321_0000u64 >> (x / 4 * 4)) % 16) as u8
+    let digit = d.min(32) / 4;
+    ((0x4_3321_0000u64 >> (4 * digit)) % 16) as u8
 }
 
 // A class's least density, and how many it has beyond that.
@@ -91,32 +88,23 @@ fn steps_into(
     count: usize,
     cs: &mut [u8],
     ns: &mut [u32],
-    p: Pending,
+    mut p: Pending,
 ) -> Pending
     requires { Steps m.now from count cs.old ns.old p }
     ensures { StepsTaken m.now from count cs.old cs.new ns.old ns.new p result }
 {
-    let mut c = p.class;
-    let mut n = p.length;
-    let mut k = p.place;
-    let mut t: usize = 0;
-    while t < count {
-        let d = class_at(m[from + t]);
-        n += 1;
-        if d != c {
-            k += 1;
-            n = 1;
+    for &d in &m[from..from + count] {
+        let class = class_at(d);
+        p.length += 1;
+        if class != p.class {
+            p.place += 1;
+            p.length = 1;
         }
-        c = d;
-        cs[k] = d;
-        ns[k] = n;
-        t += 1;
+        p.class = class;
+        cs[p.place] = class;
+        ns[p.place] = p.length;
     }
-    Pending {
-        class: c,
-        length: n,
-        place: k,
-    }
+    p
 }
 
 // The longest runs of one class in `m`, into two lent slices, until there are `most`: over a long run eight measures at a time, then a
@@ -125,27 +113,28 @@ fn runs_into(m: &[u32], cs: &mut [u8], ns: &mut [u32], most: usize) -> Taken
     requires { ScanAsked m.now cs.old ns.old most }
     ensures { FirstRuns m.now most cs.old cs.new ns.old ns.new result }
 {
-    if m.len() == 0 {
+    if m.is_empty() {
         return Taken { tokens: 0, next: 0 };
     }
-    let c = class_at(m[0]);
-    cs[0] = c;
+    let class = class_at(m[0]);
+    cs[0] = class;
     ns[0] = 1;
     let mut p = Pending {
-        class: c,
+        class,
         length: 1,
         place: 0,
     };
     let mut i: usize = 1;
     while i < m.len() {
-        let k = p.place;
-        if k >= most {
-            i -= p.length as usize;
-            return Taken { tokens: k, next: i };
+        if p.place >= most {
+            return Taken {
+                tokens: p.place,
+                next: i - p.length as usize,
+            };
         }
         let j = run_on(m, i, p.class, p.length);
         p.length += (j - i) as u32;
-        ns[k] = p.length;
+        ns[p.place] = p.length;
         if m.len() - j > 16 {
             p = steps_into(m, j, 8, cs, ns, p);
             p = steps_into(m, j + 8, 8, cs, ns, p);
@@ -155,8 +144,10 @@ fn runs_into(m: &[u32], cs: &mut [u8], ns: &mut [u32], most: usize) -> Taken
             i = m.len();
         }
     }
-    let tokens = p.place + 1;
-    Taken { tokens, next: i }
+    Taken {
+        tokens: p.place + 1,
+        next: i,
+    }
 }
 
 // v, with n added where x is k.
@@ -167,40 +158,31 @@ fn add_if(v: u32, n: u32, k: u8, x: u8) -> u32
     if k == x { v + n } else { v }
 }
 
-// What the tokens in two slices hold.
-fn add_up(cs: &[u8], ns: &[u32]) -> Sums
-    requires { Paired cs.now ns.now }
-    ensures { result ≡ sums_of (paired cs.now ns.now) }
+// What some tokens hold.
+fn add_up(tokens: Tokens) -> Sums
+    requires { total (paired tokens.classes.now tokens.lengths.now) ≤ 1048576 }
+    ensures { result ≡ sums_of (paired tokens.entry.classes.now tokens.entry.lengths.now) }
 {
-    let mut a: u32 = 0;
-    let mut b: u32 = 0;
-    let mut c: u32 = 0;
-    let mut d: u32 = 0;
-    let mut e: u32 = 0;
-    let mut f: u32 = 0;
-    let mut i: usize = 0;
-    while i < cs.len() {
-        let x = cs[i];
-        let n = ns[i];
-        a = add_if(a, n, 1, x);
-        b = add_if(b, n, 2, x);
-        c = add_if(c, n, 3, x);
-        d = add_if(d, n, 4, x);
-        e = add_if(e, n, 0, x);
-        f = add_if(f, wide(n), 0, x);
-        i += 1;
+    let mut sums = Sums {
+        run16: 0,
+        run20: 0,
+        run24: 0,
+        run32: 0,
+        breaks: 0,
+        wide: 0,
+    };
+    for (&x, &n) in tokens.classes.iter().zip(tokens.lengths) {
+        sums.run16 = add_if(sums.run16, n, 1, x);
+        sums.run20 = add_if(sums.run20, n, 2, x);
+        sums.run24 = add_if(sums.run24, n, 3, x);
+        sums.run32 = add_if(sums.run32, n, 4, x);
+        sums.breaks = add_if(sums.breaks, n, 0, x);
+        sums.wide = add_if(sums.wide, wide(n), 0, x);
     }
-    Sums {
-        run16: a,
-        run20: b,
-        run24: c,
-        run32: d,
-        breaks: e,
-        wide: f,
-    }
+    sums
 }
 
-// The tokens of a chart, into two lent slices, and its counts, summed up from the tokens.
+// The tokens of a chart, into two lent slices, as C lends them, and its counts, summed up from the tokens.
 pub fn scan(m: &[u32], cs: &mut [u8], ns: &mut [u32]) -> ScanAnswer
     requires { TokenRoom m.now cs.old ns.old }
     ensures { Scanned m.now result cs.old cs.new ns.old ns.new }
@@ -209,7 +191,10 @@ pub fn scan(m: &[u32], cs: &mut [u8], ns: &mut [u32]) -> ScanAnswer
     let part = active_behind(m, lead);
     let taken = runs_into(part, cs, ns, part.len());
     let tokens = taken.tokens;
-    let sums = add_up(&cs[..tokens], &ns[..tokens]);
+    let sums = add_up(Tokens {
+        classes: &cs[..tokens],
+        lengths: &ns[..tokens],
+    });
     let counts = counted(m, lead, part, sums);
     ScanAnswer { counts, tokens }
 }

@@ -1,4 +1,3 @@
 pub mod Stretches
-pub mod Answers
 pub mod Written
 pub mod Same

@@ -1,16 +1,20 @@
 -- Stretches of stream measures and of breaks, and what segments they make. Nothing here speaks of code.
 -- Assumes nothing.
-use Prim.Native.Nat.{ℕ, zero, suc, ◌+◌, ◌≤◌, ◌<◌}
-use mathlib.Core.Path.{◌≡◌, refl, sym, ap, ◌∙◌}
+use Prim.Native.Nat.{ℕ, zero, suc, ◌+◌, ◌-◌, ◌≤◌, ◌<◌}
+use mathlib.Core.Path.{◌≡◌, refl, sym, ◌∙◌}
 use mathlib.Core.Bool.{Bool, true, false, not, cond, beq}
 use mathlib.Core.List.{List, [], ◌∷◌, map}
 use native.Mathlib.Nat.{add-zero, suc-ne-zero}
-use native.Mathlib.Numerals.{add-one}
 use native.Mathlib.Omega.{arith}
 use lib.Dec.{ltb, eqb}
-use lib.ListN.{length, drop, get_or, length-map, length-drop, drop_of_length-le}
-use lib.Seq.{drop-cons, drop-drop}
-use borrow.Author.Tests.{ne_eqb, lt-ltb, le-ltb, ltb-true, ltb-false, not-true, not-false}
+use lib.ListN.{length, drop, length-map, length-drop, drop_of_length-le}
+use lib.Seq.{drop-drop}
+use borrow.Author.Tests.{ne_eqb, lt-ltb, le-ltb, not-true, not-false}
+use native.Mathlib.Numerals.{add-one}
+use Rattle.std.specs.List.{AllWithin, HoldsAt}
+use Rattle.std.specs.Option.{MatchOption, unwrap_or}
+use Rattle.std.proofs.Common.{Option}
+use Rattle.std.proofs.lemmas.Iterator.{index_from_first}
 use Rattle.number.proofs.Split.{split}
 use Rattle.rules.specs.Chart.{class_of, classes, Token, token, runs_from, runs, flat, streams}
 use Rattle.rules.specs.Calls.{segments_at, segments}
@@ -18,32 +22,33 @@ use Rattle.rules.specs.declared.StreamSegment.{StreamSegment}
 use Rattle.rules.proofs.Steps.{map-drop}
 use Rattle.rules.specs.Slices.{leading}
 use Rattle.rules.proofs.View.{first_run}
-use Rattle.segments.specs.Steps.{flat_from, stretch, segments_from, step_of}
-use Rattle.segments.specs.declared.steps.Cursor.{Cursor}
-use Rattle.segments.specs.declared.steps.SegmentStep.TheVariants.{Segment, Done}
+use Rattle.segments.specs.Steps.{flat_from, stretch, segments_from}
 
--- ---- the loop over a stretch
+-- ---- how long a stretch is
 
--- whether a measure of class c ends a stretch of stream measures, or of breaks
-abbrev ends : Bool → ℕ → Bool
-ends stream c = not (beq (not (eqb c 0)) stream)
+-- whether a measure ends a stretch of stream measures, or of breaks
+abbrev pub ends : Bool → ℕ → Bool
+ends stream d = not (beq (not (eqb (class_of d) 0)) stream)
 
-ends_is : (stream : Bool) (c : ℕ) → ends stream c ≡ not (eqb (cond stream 1 0) (flat c))
+ends_is : (stream : Bool) (c : ℕ) → not (beq (not (eqb c 0)) stream) ≡ not (eqb (cond stream 1 0) (flat c))
 ends_is true zero = refl
 ends_is true (suc c) = rw (ne_eqb (suc c) 0 (suc-ne-zero c))
 ends_is false zero = refl
 ends_is false (suc c) = rw (ne_eqb (suc c) 0 (suc-ne-zero c))
 
-module _ (stream : Bool) (m : List ℕ) (i : ℕ) where
-  module _ (h : i < length m) (c : ℕ) (is : c ≡ class_of (get_or m i 0)) where
-    pub stretch-stop : ends stream c ≡ true → stretch stream m i ≡ 0
-    stretch-stop t = rw (drop-cons m i 0, ← is, not-true (eqb (cond stream 1 0) (flat c)) (sym (ends_is stream c) ∙ t))
+-- how long the stretch at the front is
+abbrev pub front : Bool → List ℕ → ℕ
+front stream m = leading (cond stream 1 0) (map flat (classes m))
 
-    pub stretch-more : ends stream c ≡ false → stretch stream m i ≡ stretch stream m (i + 1) + 1
-    stretch-more t = rw (add-one i, drop-cons m i 0, ← is, not-false (eqb (cond stream 1 0) (flat c)) (sym (ends_is stream c) ∙ t), add-one)
-
-  pub stretch-end : length m ≤ i → stretch stream m i ≡ 0
-  stretch-end h = rw (drop_of_length-le m h)
+-- a stretch is as long as there are measures before the first that ends it
+pub stretch-length : (stream : Bool) (m : List ℕ) (r : Option ℕ)
+    → MatchOption r (AllWithin (λ d. ends stream d ≡ false) m 0 (length m))
+    (λ i. (i < length m) × HoldsAt (λ d. ends stream d ≡ true) m i × AllWithin (λ d. ends stream d ≡ false) m 0 i)
+    → front stream m ≡ unwrap_or r (length m)
+stretch-length stream m r =
+    index_from_first (front stream) (λ d. ends stream d ≡ true) (λ d. ends stream d ≡ false) refl
+    (λ d m h. rw (not-true (eqb (cond stream 1 0) (flat (class_of d))) (sym (ends_is stream (class_of d)) ∙ h)))
+    (λ d m h. rw (not-false (eqb (cond stream 1 0) (flat (class_of d))) (sym (ends_is stream (class_of d)) ∙ h), add-one)) m r
 
 -- ---- the first stretch of a list, and the segments
 
@@ -56,7 +61,7 @@ gap at n = record { start = at; end = at + n; is_break = true }
 abbrev piece : ℕ → ℕ → StreamSegment
 piece at n = record { start = at; end = at + n; is_break = false }
 
--- none of the class is left behind those at the front
+-- none of the class is left after those at the front
 leading-all : (c : ℕ) (xs : List ℕ) → leading c (drop (leading c xs) xs) ≡ 0
 leading-all c [] = refl
 leading-all c (x ∷ xs) = split (eqb c x) (λ e. rw e (leading-all c xs)) (λ e. rw (e, e))
@@ -90,9 +95,10 @@ module _ (m : List ℕ) (at : ℕ) where
   past : (n : ℕ) → drop n (flat_from m at) ≡ flat_from m (at + n)
   past n = rw (← map-drop, ← map-drop, drop-drop)
 
-  pub wide_step : 2 ≤ stretch false m at → segments_from m at ≡ gap at (stretch false m at) ∷ segments_from m (at + stretch false m at)
+  pub wide_step : (end : ℕ) → end ≡ at + stretch false m at → 2 ≤ end - at
+      → segments_from m at ≡ record { start = at; end = end; is_break = true } ∷ segments_from m end
   unfolding segments_from
-  wide_step h = rw (← (past (stretch false m at))) (gap-wide at (flat_from m at) h)
+  wide_step end e h = rw (e, ← (past (stretch false m at))) (gap-wide at (flat_from m at) (omega arith))
 
   narrow_step : stretch false m at < 2 → segments_from m at ≡ segments_from m (at + stretch false m at)
   unfolding segments_from
@@ -109,61 +115,17 @@ module _ (m : List ℕ) (at : ℕ) where
   gap-passed : stretch false m (at + stretch false m at) ≡ 0
   gap-passed = rw (← (past (stretch false m at))) (leading-all 0 (flat_from m at))
 
-module _ (m : List ℕ) (at : ℕ) where
-  abbrev end : ℕ
-  end = at + stretch false m at
+-- past a gap of less than 2, up to `gap_end`: the end, or a piece
+module _ (m : List ℕ) (at gap_end : ℕ) (g : gap_end ≡ at + stretch false m at) (h : gap_end - at < 2) where
+  passed : segments_from m at ≡ segments_from m gap_end
+  passed = rw g (narrow_step m at (omega arith))
 
-  -- past a gap of less than 2: the end, or a piece
-  pub done-step : stretch false m at < 2 → length m ≤ end → segments_from m at ≡ []
-  done-step h g = narrow_step m at h ∙ no_step m end g
+  pub done-step : length m ≤ gap_end → segments_from m at ≡ []
+  done-step l = passed ∙ no_step m gap_end l
 
-  pub next-step : stretch false m at < 2 → end < length m → segments_from m at ≡ piece end (stretch true m end) ∷ segments_from m (end + stretch true m end)
-  next-step h g = narrow_step m at h ∙ piece-step m end g (gap-passed m at)
-
-  -- after a segment stand those from its end on
-  from_end : (s t : StreamSegment) (ss : List StreamSegment) → t ∷ segments_from m t.end ≡ s ∷ ss → segments_from m s.end ≡ ss
-  from_end s t ss e =
-      let head : t ≡ s = cc in
-      let tail : segments_from m t.end ≡ ss = cc in
-      rw (← head) tail
-
-  pub follows : (s : StreamSegment) (ss : List StreamSegment) → segments_from m at ≡ s ∷ ss → segments_from m s.end ≡ ss
-  follows s ss e =
-      split (ltb (stretch false m at) 2)
-      (λ h. split (ltb end (length m))
-      (λ g. from_end s _ ss (sym (next-step (ltb-true _ _ h) (ltb-true _ _ g)) ∙ e))
-      (λ g. never (sym (done-step (ltb-true _ _ h) (ltb-false _ _ g)) ∙ e)))
-      (λ h. from_end s _ ss (sym (wide_step m at (ltb-false _ _ h)) ∙ e))
-    where
-      never : [] ≡ s ∷ ss → segments_from m s.end ≡ ss
-      never e = let z : ◌≡◌ {A = ℕ} 0 1 = cc in absurd (omega arith)
-
-  -- a step from `at` to the segment s, and to the place `next` after it
-  pub record Stepped (s : StreamSegment) (next : Cursor) : Type 0 where
-    pub rest : List StreamSegment
-    pub from : segments_from m at ≡ s ∷ rest
-    pub left : segments_from m next.at ≡ rest
-
-  pub stepped : (s : StreamSegment) (next : Cursor) → step_of (segments_from m at) ≡ Segment s next → Stepped s next
-  stepped s next e = by-list (segments_from m at) refl e
-    where
-      by-list : (l : List StreamSegment) → segments_from m at ≡ l → step_of l ≡ Segment s next → Stepped s next
-      by-list [] is e = let z : ◌≡◌ {A = ℕ} 0 1 = cc in absurd (omega arith)
-      by-list (t ∷ ts) is e =
-          let head : t ≡ s = cc in
-          let place : record { at = t.end } ≡ next = cc in
-          record { rest = ts; from = is ∙ ap {B = List StreamSegment} (λ u. u ∷ ts) head; left = rw (← place) (follows t ts is) }
-
-  pub one_less : {s : StreamSegment} {next : Cursor} → Stepped s next → length (segments_from m at) ≡ suc (length (segments_from m next.at))
-  one_less g = rw (g.from, g.left)
-
-  -- a step to the end
-  pub ended : step_of (segments_from m at) ≡ Done → segments_from m at ≡ []
-  ended e = by-list (segments_from m at) refl e
-    where
-      by-list : (l : List StreamSegment) → segments_from m at ≡ l → step_of l ≡ Done → segments_from m at ≡ []
-      by-list [] is e = is
-      by-list (t ∷ ts) is e = let z : ◌≡◌ {A = ℕ} 0 1 = cc in absurd (omega arith)
+  pub piece_step : (end : ℕ) → end ≡ gap_end + stretch true m gap_end → gap_end < length m
+      → segments_from m at ≡ record { start = gap_end; end = end; is_break = false } ∷ segments_from m end
+  piece_step end e l = passed ∙ rw e (piece-step m gap_end l (rw g (gap-passed m at)))
 
 -- ---- no chart has more segments than measures
 

@@ -1,87 +1,77 @@
 // The stepper: from a place in the measures to the next segment.
-ghost use Rattle.std.specs.Prelude.{◌≡◌, ◌+◌, length};
-ghost use Rattle.rules.specs.Chart.{classes};
+ghost use Rattle.std.specs.Prelude.{◌≡◌, ◌+◌, not, eqb};
+ghost use Rattle.std.specs.Iterator.{YieldsFirst, item_count};
+ghost use Rattle.rules.specs.Chart.{class_of, classes};
 ghost use Rattle.rules.specs.Calls.{segments};
-ghost use Rattle.segments.specs.Steps.{stretch, segments_from, step_of};
+ghost use Rattle.segments.specs.Steps.{stretch, segments_from};
 
-use measures::class::class_of;
-use rules::StreamSegment;
+use measures::class::categorize_measure_density;
+use rules::{RunDensity, StreamSegment};
 
-// A place in the measures.
-#[derive(Clone, Copy)]
-pub struct Cursor {
-    pub at: usize,
+// Is it a stream measure, and no break?
+fn is_stream(d: u32) -> bool
+    ensures { result ≡ not (eqb (class_of d) 0) }
+{
+    categorize_measure_density(d) != RunDensity::Break
 }
 
-// A segment and the place after it, or the end.
-#[derive(Clone, Copy)]
-pub enum SegmentStep {
-    Segment(StreamSegment, Cursor),
-    Done,
-}
-
-// One past the stream measures, or the breaks, that stand at `at` and behind it.
-pub fn stretch_end(m: &[u32], at: usize, stream: bool) -> usize
+// One past the stream measures, or the breaks, that stand from `at` on.
+fn stretch_end(m: &[u32], at: usize, stream: bool) -> usize
     ensures { result ≡ at + stretch stream m.now at }
 {
-    let mut i = at;
-    while i < m.len() {
-        let class = class_of(m[i]);
-        if (class != 0) != stream {
-            return i;
-        }
-        i += 1;
-    }
-    i
-}
-
-// Where the steps begin: at the first measure, or at the end of a stream-free chart, which has no segments.
-pub fn first_cursor(m: &[u32]) -> Cursor
-    ensures { segments_from m.now result.at ≡ segments (classes m.now) }
-{
-    let lead_in = stretch_end(m, 0, false);
-    if lead_in < m.len() {
-        Cursor { at: 0 }
-    } else {
-        Cursor { at: lead_in }
-    }
-}
-
-// The gap at the cursor if it has 2 measures or more, else the piece after it.
-pub fn next_segment(m: &[u32], c: Cursor) -> SegmentStep
-    ensures { result ≡ step_of (segments_from m.now c.at) }
-{
-    let at = c.at;
-    let gap_end = stretch_end(m, at, false);
-    if 2 <= gap_end - at {
-        let gap = StreamSegment {
-            start: at,
-            end: gap_end,
-            is_break: true,
-        };
-        return SegmentStep::Segment(gap, Cursor { at: gap_end });
-    }
-    if m.len() <= gap_end {
-        return SegmentStep::Done;
-    }
-    let end = stretch_end(m, gap_end, true);
-    let piece = StreamSegment {
-        start: gap_end,
-        end,
-        is_break: false,
+    let Some(rest) = m.get(at..) else {
+        return at;
     };
-    SegmentStep::Segment(piece, Cursor { at: end })
+    let end = rest.iter().position(|d| is_stream(*d) != stream);
+    at + end.unwrap_or(rest.len())
 }
 
-// How many segments there are.
-pub fn count_segments(m: &[u32]) -> usize
-    ensures { result ≡ length (segments (classes m.now)) }
-{
-    let mut n: usize = 0;
-    let mut c = first_cursor(m);
-    while let SegmentStep::Segment(_, next) = next_segment(m, c) {
-        n += 1;
-        c = next;
+// The segments from the place `at` on, one by one.
+#[derive(Drop)]
+pub(crate) struct Segments<'a> {
+    measures: &'a [u32],
+    at: usize,
+}
+
+impl<'a> Segments<'a> {
+    // A chart's segments begin at its first measure; a stream-free chart has none, as there are none from its end on.
+    pub(crate) fn new(measures: &'a [u32]) -> Segments<'a>
+        ensures { segments_from result.measures.now result.at ≡ segments (classes measures.now) }
+    {
+        let lead_in = stretch_end(measures, 0, false);
+        let at = if lead_in < measures.len() { 0 } else { lead_in };
+        Segments { measures, at }
     }
-    n
+}
+
+impl Iterator for Segments<'_> {
+    type Item = StreamSegment;
+
+    ghost next_gives = { YieldsFirst (λ s. segments_from s.measures.now s.at) };
+
+    ghost remaining = { item_count (λ s. segments_from s.measures.now s.at) };
+
+    // The gap that stands at the place if it has 2 measures or more, else the piece after it.
+    fn next(&mut self) -> Option<StreamSegment> {
+        let at = self.at;
+        let gap_end = stretch_end(self.measures, at, false);
+        if 2 <= gap_end - at {
+            self.at = gap_end;
+            return Some(StreamSegment {
+                start: at,
+                end: gap_end,
+                is_break: true,
+            });
+        }
+        if self.measures.len() <= gap_end {
+            return None;
+        }
+        let end = stretch_end(self.measures, gap_end, true);
+        self.at = end;
+        Some(StreamSegment {
+            start: gap_end,
+            end,
+            is_break: false,
+        })
+    }
 }

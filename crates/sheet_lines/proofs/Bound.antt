@@ -10,12 +10,13 @@ use Rattle.rules.specs.Texts.{text, end_to_end, lengths_of}
 use Rattle.counts_line.specs.CountsLine.{line}
 use Rattle.counts_line.proofs.Bound.{line-length}
 use Rattle.sheet_lines.specs.Sheet.{text_lines}
-use Rattle.sheet_lines.specs.Steps.{sum}
+use Rattle.std.specs.List.{sum}
+use Rattle.std.proofs.lemmas.List.Sums.{sum_by-cons}
 
 module _ (m : List ℕ) where
   pub sum-lengths : (ks : List Kind) → sum (lengths_of ks m) ≡ length (end_to_end ks m)
   sum-lengths [] = refl
-  sum-lengths (k ∷ ks) = omega (arith, length-append (text k m) (end_to_end ks m), sum-lengths ks)
+  sum-lengths (k ∷ ks) = omega (arith, sum_by-cons (λ n. n) (length (text k m)) (lengths_of ks m), length-append (text k m) (end_to_end ks m), sum-lengths ks)
 
   pub lines-length : (ks : List Kind) → length (text_lines ks m) ≡ length (end_to_end ks m) + length ks
   lines-length [] = refl

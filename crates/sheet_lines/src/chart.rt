@@ -1,11 +1,20 @@
 // The lines of a record that was read.
-ghost use Rattle.sheet_lines.specs.Steps.{AtStart, NameRoom, LinesRoom, all_lines, chart_bytes};
+ghost use Rattle.number.specs.Questions.{OneText};
+ghost use Rattle.number.specs.Refusal.{written_of};
+ghost use Rattle.sheet_lines.specs.Steps.{AtStart, NameRoom, LinesRoom, all_lines, texts_no, chart_lines};
 
-use crate::put::{put_line, put_refusal, put_texts};
+use crate::MOST_INPUT;
+use crate::put::{put_line, put_texts};
 use chart_texts::single::stream_breakdown;
 use counts_line::put_counts;
+use number::refusal::Refusal;
 use rules::{StreamBreakdownLevel, StreamCounts};
 use stream_outputs::compute_stream_outputs;
+
+// What the pass and the call that writes Total are lent for texts.
+const TEXT_BYTES: usize = 65_536;
+
+const TOTAL_BYTES: usize = 32;
 
 // Name, counts, the texts that stand end to end in `texts`, Total.
 fn put_lines(
@@ -27,23 +36,16 @@ fn put_lines(
 }
 
 // The questions of the pass, then those of Total.
-pub fn put_chart(name: &[u8], m: &[u32], out: &mut [u8]) -> usize
+pub fn put_chart(name: &[u8], m: &[u32], out: &mut [u8]) -> Result<usize, Refusal>
     requires { NameRoom name.now out.old }
-    ensures { AtStart out.old out.new (chart_bytes name.now m.now) result }
+    ensures { OneText (texts_no m.now) (chart_lines name.now m.now) out.old out.new (written_of result) }
 {
-    let mut classes = [0u8; 16384];
-    let mut lengths = [0u32; 16384];
-    let mut texts = [0u8; 65536];
-    let outputs = compute_stream_outputs(m, &mut classes, &mut lengths, &mut texts);
-    if outputs.refused != 0 {
-        return put_refusal(out, outputs.refused);
-    }
-    let mut total = [0u8; 32];
-    let written = stream_breakdown(m, StreamBreakdownLevel::Total, &mut total);
-    if written.refused != 0 {
-        return put_refusal(out, written.refused);
-    }
-    let length = written.length;
+    let mut classes = [0; MOST_INPUT];
+    let mut lengths = [0; MOST_INPUT];
+    let mut texts = [0; TEXT_BYTES];
+    let outputs = compute_stream_outputs(m, &mut classes, &mut lengths, &mut texts)?;
+    let mut total = [0; TOTAL_BYTES];
+    let length = stream_breakdown(m, StreamBreakdownLevel::Total, &mut total)?;
     let each = outputs.lengths;
-    put_lines(out, name, outputs.counts, &texts, &each, &total[..length])
+    Ok(put_lines(out, name, outputs.counts, &texts, &each, &total[..length]))
 }

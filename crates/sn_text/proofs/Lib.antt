@@ -1,3 +1,4 @@
 pub mod Groups
 pub mod SnParts
 pub mod SnThree
+pub mod Zipped

@@ -1,11 +1,11 @@
 -- A part of an SN text, run by run or, where no runs join, token by token.
 -- Assumes nothing.
-use Prim.Native.Nat.{ℕ, zero, suc, ◌+◌, ◌*◌, ◌≤◌, ◌<◌}
+use Prim.Native.Nat.{ℕ, zero, suc, ◌+◌, ◌*◌, ◌^◌, ◌≤◌, ◌<◌}
 use mathlib.Core.Path.{◌≡◌, refl, sym, ap, ◌∙◌}
 use mathlib.Core.Bool.{Bool, true, false, ◌&&◌, and-false, and-eq-true_iff}
 use mathlib.Core.Logic.{◌≢◌, inl, inr}
 use mathlib.Core.List.{List, [], ◌∷◌, ◌++◌, map, map-append, append_assoc, append-nil}
-use native.Mathlib.Nat.{suc-ne-zero, zero-add}
+use native.Mathlib.Nat.{suc-ne-zero}
 use native.Mathlib.Numerals.{add-one}
 use native.Mathlib.Omega.{arith}
 use lib.Dec.{eqb, ltb, leb}
@@ -13,11 +13,10 @@ use lib.ListN.{length, take, drop, get_or, length-append, length-map}
 use borrow.Author.Tests.{ltb-true, leb-true, leb-false, lt-ltb, le-ltb}
 use Rattle.number.specs.Digits.{digits}
 use Rattle.number.specs.Place.{Room}
-use Rattle.number.specs.Pushed.{DigitCount}
 use Rattle.number.proofs.Split.{split}
 use Rattle.rules.specs.Bytes.{bytes}
 use Rattle.rules.specs.Chart.{Token, token, class, len}
-use Rattle.rules.specs.Reduced.{Item, run, item, sign_of, joins, join_from, short, absorb, drop_ones}
+use Rattle.rules.specs.Reduced.{Item, run, item, joins, join_from, short, absorb, drop_ones}
 use Rattle.rules.specs.Texts.{word, strung}
 use Rattle.rules.proofs.Steps.{drop-run, simple-run, short-long}
 use Rattle.rules.specs.Slices.{paired}
@@ -27,27 +26,16 @@ use Rattle.text_buffer.specs.Measured.{Measured}
 use Rattle.text_buffer.specs.MayFollow.{MayFollow, first_class}
 use Rattle.sn_text.specs.Sn.{break_item, break_tokens, shown}
 use Rattle.text_buffer.specs.Parts.{TokensBehind, PartRoom, PartWritten, PartMeasured}
-use Rattle.sn_text.specs.SnParts.{OpenRun, spaced, sn_of, sn_part, sn_on, ended, long_break, join_class, TokenAt, RunAt, WithBreak, SideLength}
+use Rattle.sn_text.specs.SnParts.{OpenRun, spaced, sn_of, sn_part, sn_on, ended, long_break, join_class, TokenAt, RunAt}
+use Rattle.text_buffer.specs.Runs.{run_text}
 use Rattle.text_buffer.specs.Words.{side}
-use Rattle.text_buffer.proofs.Bytes.{sign-one}
+use Rattle.text_buffer.proofs.Bytes.{run_short}
 use Rattle.text_buffer.proofs.Reading.{behind-low, run-behind}
 use Rattle.rules.proofs.Pairs.{none_left, slices-next}
 use Rattle.sn_text.proofs.Groups.{drop-append, after_run_lem, after-join, after-apart, break-tokens, one-shows, short-shows, long-shows}
 use Rattle.text_buffer.proofs.Added.{added_none, added-room, added, grown-room, grown-added, step_room, step}
 use Rattle.text_buffer.specs.declared.buffer.Left.{Left}
-
--- ---- signs and sides
-
-pub sign-item : (k n : ℕ) → k ≢ 0 → break_item k n ≡ sign_of 32 n
-sign-item zero n h = absurd (h refl)
-sign-item (suc k) n h = refl
-
-pub side-one : (c : ℕ) → c ≢ 1 → SideLength c 1
-side-one zero h = record { left = refl; right = refl; short = omega arith }
-side-one (suc zero) h = absurd (h refl)
-side-one (suc (suc zero)) h = record { left = refl; right = refl; short = omega arith }
-side-one (suc (suc (suc zero))) h = record { left = refl; right = refl; short = omega arith }
-side-one (suc (suc (suc (suc c)))) h = record { left = refl; right = refl; short = omega arith }
+use Rattle.text_buffer.specs.declared.run.Run.{Run}
 
 -- ---- a run first, so something is shown
 
@@ -122,9 +110,9 @@ module _ (k : ℕ) (t : Token) (rt : class t ≢ 0) (u : Token) (us : List Token
 
 -- ---- the next run of two slices, and the break before it
 
-module _ {cs ns : List ℕ} {i : ℕ} (a : TokenAt cs ns i) where
+module _ {cs ns : List ℕ} {i : ℕ} (l : length cs ≡ length ns) (a : TokenAt cs ns i) where
   first : drop i (paired cs ns) ≡ token (get_or cs i 0) (get_or ns i 0) false ∷ drop (suc i) (paired cs ns)
-  first = slices-next cs ns i a.long a.inside
+  first = slices-next cs ns i l a.inside
 
   pub run-next : get_or cs i 0 ≢ 0 → RunAt cs ns i 0 (get_or cs i 0) (get_or ns i 0) (i + 1)
   run-next r =
@@ -139,7 +127,7 @@ module _ {cs ns : List ℕ} {i : ℕ} (a : TokenAt cs ns i) where
 
   module _ (b : get_or cs i 0 ≡ 0) where
     left_behind : (1 ≤ get_or ns i 0) × MayFollow 0 (drop (suc i) (paired cs ns))
-    left_behind = let l = rw (first, b) at a.behind in ((l.0 refl).1, l.1)
+    left_behind = let f = rw (first, b) at a.behind in ((f.0 refl).1, f.1)
 
     pub run_inside : i + 1 < length cs
     run_inside =
@@ -148,7 +136,7 @@ module _ {cs ns : List ℕ} {i : ℕ} (a : TokenAt cs ns i) where
         (λ e. rw add-one (leb-false _ _ e))
 
     second : drop (suc i) (paired cs ns) ≡ token (get_or cs (suc i) 0) (get_or ns (suc i) 0) false ∷ drop (suc (suc i)) (paired cs ns)
-    second = slices-next cs ns (suc i) a.long (rw add-one at run_inside)
+    second = slices-next cs ns (suc i) l (rw add-one at run_inside)
 
     pub break-next : RunAt cs ns i (get_or ns i 0) (get_or cs (i + 1) 0) (get_or ns (i + 1) 0) (i + 2)
     break-next =
@@ -166,11 +154,6 @@ module _ {cs ns : List ℕ} {i : ℕ} (a : TokenAt cs ns i) where
 pub no-break : {cs ns : List ℕ} {i g d n next : ℕ} → RunAt cs ns i g d n next → next ≡ i + 1 → g ≡ 0
 no-break {g = zero} a e = refl
 no-break {g = suc g} a e = absurd (omega (arith, a.on))
-
--- the next run elsewhere: a break before it
-pub some-break : {cs ns : List ℕ} {i g d n next : ℕ} → RunAt cs ns i g d n next → next ≢ i + 1 → 1 ≤ g
-some-break {g = zero} a e = absurd (e (omega (arith, a.on)))
-some-break {g = suc g} a e = omega arith
 
 -- no run joins where there is no break
 pub adjacent : (k c : ℕ) {cs ns : List ℕ} {i g d n next : ℕ} → RunAt cs ns i g d n next → g ≡ 0 → d ≢ join_class k c g
@@ -190,9 +173,6 @@ pub opened-starts : (k : ℕ) (t : Token) {cs ns : List ℕ} → TokensBehind (c
 opened-starts k t h = record { whole = λ more. refl; run = h.run; behind = h.behind; small = omega arith; within = omega arith }
 
 module _ {k : ℕ} {t : Token} {cs ns done : List ℕ} {u : Token} {i : ℕ} (o : Opened k t cs ns done u i) where
-  pub opened-at : length cs ≡ length ns → i < length cs → TokenAt cs ns i
-  opened-at l h = record { long = l; inside = h; earlier = class u; behind = o.behind }
-
   pub opened-low : class u ≤ 4
   opened-low = behind-low (class u) (drop i (paired cs ns)) o.behind
 
@@ -218,19 +198,16 @@ module _ {k : ℕ} {t : Token} {cs ns done : List ℕ} {u : Token} {i : ℕ} (o 
           within = a.within;
         }
 
+    pub next-whole : d ≢ join_class k (class u) g → (more : List Token)
+        → sn_part k t cs ns more ≡ (done ++ ended k (shown k (u ∷ break_tokens g))) ++ sn_of k (token d n false ∷ (drop next (paired cs ns) ++ more))
+    next-whole e more =
+        on-text more
+        ∙ rw (apart-text k u o.run (token d n false) (drop next (paired cs ns) ++ more) g a.run e)
+        (sym (append_assoc done (ended k (shown k (u ∷ break_tokens g))) (sn_of k (token d n false ∷ (drop next (paired cs ns) ++ more)))))
+
     pub opened-next : d ≢ join_class k (class u) g → n < 4294967296
         → Opened k t cs ns (done ++ ended k (shown k (u ∷ break_tokens g))) (token d n false) next
-    opened-next e x =
-        record {
-          whole = λ more.
-              on-text more
-              ∙ rw (apart-text k u o.run (token d n false) (drop next (paired cs ns) ++ more) g a.run e)
-              (sym (append_assoc done (ended k (shown k (u ∷ break_tokens g))) (sn_of k (token d n false ∷ (drop next (paired cs ns) ++ more)))));
-          run = a.run;
-          behind = a.behind;
-          small = omega (arith, a.on);
-          within = a.within;
-        }
+    opened-next e x = record { whole = next-whole e; run = a.run; behind = a.behind; small = omega (arith, a.on); within = a.within }
 
 -- ---- a run and a break over which it does not join
 
@@ -268,9 +245,9 @@ module _ (k c n : ℕ) (s : Bool) (g : ℕ) (r : c ≢ 0) where
   pub adjacent-text : g ≡ 0 → word (run c n s) ++ (32 ∷ []) ≡ ended k (shown k (token c n s ∷ break_tokens g))
   adjacent-text z = sym (ap (ended k) (else-shown (rw z refl)) ∙ group-short (omega (arith, z)))
 
-  -- a break that is longer than the limit is shown as a sign
-  pub group-long : 1 ≤ k → k < g → ended k (token c n s ∷ long_break k g) ≡ (word (run c n s) ++ (32 ∷ [])) ++ (word (sign_of 32 g) ++ (32 ∷ []))
-  group-long o l = rw (lt-ltb 1 g (omega arith), lt-ltb k g l, run-item (break_item k) c n s r, sign-item k g (λ z. omega arith)) (simp append-nil)
+-- a run is added, and a space: at most 24 bytes
+pub ended-most : (t : Run) {old new : List ℕ} {k r : ℕ} → t.length < 2 ^ 64 → Grown old new k (run_text t ++ bytes " ") r → r ≤ k + 24
+ended-most t h g = omega (arith, g.next, length-append (run_text t) (bytes " "), run_short t.class t.length t.starred h)
 
 -- ---- a token
 
@@ -281,19 +258,6 @@ token-text (suc c) n e = rw e (simp (append_assoc, append-nil))
 
 pub token-none : (c n : ℕ) → (eqb c 0 && eqb n 1) ≡ true → ended 0 (drop_ones (token c n false ∷ [])) ≡ []
 token-none c n e = rw e
-
--- no tokens
-pub none_written : (k : ℕ) (t : Token) (cs ns : List ℕ) {buf out : List ℕ} {from : Left} → TokensBehind (class t) cs ns → length cs ≡ 0 → from.left ≤ 1984
-    → PartWritten (sn_part k t cs ns) (sn_on k t) buf out from buf out from × OpenRun t cs t
-none_written k t cs ns b h l =
-    let o = opened-starts k t b in
-    (record { done = []; whole = opened-whole o (omega arith); wrote = added_none l }, opened-ends o (omega arith))
-
-pub none-measured : (k : ℕ) (t : Token) (cs ns : List ℕ) → TokensBehind (class t) cs ns → length cs ≡ 0
-    → PartMeasured (sn_part k t cs ns) (sn_on k t) (47 * length cs) 0 × OpenRun t cs t
-none-measured k t cs ns b h =
-    let o = opened-starts k t b in
-    (record { whole = λ more. ap length (opened-whole o (omega arith) more) ∙ sym (zero-add _); short = omega arith }, opened-ends o (omega arith))
 
 -- ---- a part is written, run by run
 
@@ -316,14 +280,14 @@ module _ {k : ℕ} {t : Token} {cs ns old out : List ℕ} {from : Left} {buf mid
         → Writing k t cs ns old out from buf mid (token (class u) (len u + (g + n)) true) to next
     writing-joins e x y = record { done = w.done; opened = opened-joins w.opened a e x y; wrote = w.wrote }
 
-    module _ (e : d ≢ join_class k (class u) g) (x : n < 4294967296) {new : List ℕ} {full : ℕ}
+    module _ (e : d ≢ join_class k (class u) g) {new : List ℕ} {full : ℕ}
         (h : Grown buf new to.left (ended k (shown k (u ∷ break_tokens g))) full) where
       pub writing-room : PartRoom (sn_part k t cs ns) old out from → Room mid to.place (take full new)
-      writing-room r = step_room w.done w.wrote _ h _ (rw ((opened-next w.opened a e x).whole r.more) at r.room)
+      writing-room r = step_room w.done w.wrote _ h _ (rw (next-whole w.opened a e r.more) at r.room)
 
-      pub writing-next : {last : List ℕ} {end : Left} → Added new mid (goes_on to.place full) [] new last end
+      pub writing-next : n < 4294967296 → {last : List ℕ} {end : Left} → Added new mid (goes_on to.place full) [] new last end
           → Writing k t cs ns old out from new last (token d n false) end next
-      writing-next f =
+      writing-next x f =
           record {
             done = w.done ++ ended k (shown k (u ∷ break_tokens g));
             opened = opened-next w.opened a e x;
@@ -400,10 +364,10 @@ last-token : (cs ns : List ℕ) (m : ℕ) → length cs ≡ length ns → suc m 
 last-token cs ns m l h = slices-next cs ns m l (omega arith) ∙ rw (none_left cs ns (suc m) (omega arith))
 
 -- the open run before them
-module _ (c n : ℕ) (s : Bool) {cs ns : List ℕ} (b : TokensBehind c cs ns) (h : length cs ≢ 0) where
+module _ (c n : ℕ) (s : Bool) {cs ns : List ℕ} (p : length cs ≡ length ns) (b : TokensBehind c cs ns) (h : length cs ≢ 0) where
   first-text : (more : List Token) → sn_part 0 (token c n s) cs ns more ≡ (word (run c n s) ++ (32 ∷ [])) ++ sn_of 0 (paired cs ns ++ more)
   first-text more =
-      let e : paired cs ns ≡ token (get_or cs 0 0) (get_or ns 0 0) false ∷ drop 1 (paired cs ns) = slices-next cs ns 0 b.long (omega arith) in
+      let e : paired cs ns ≡ token (get_or cs 0 0) (get_or ns 0 0) false ∷ drop 1 (paired cs ns) = slices-next cs ns 0 p (omega arith) in
       rw e
       (next-text (token c n s) (get_or cs 0 0) (get_or ns 0 0) (drop 1 (paired cs ns)) more (rw e at b.behind)
       ∙ rw (drop-run (token c n s) [] b.run, alone-text 0 c n s 0 b.run))
@@ -416,9 +380,6 @@ pub record Summing (cs ns : List ℕ) (start total i : ℕ) : Type 0 where
   pub earlier : ℕ
   pub behind : MayFollow earlier (drop i (paired cs ns))
   pub short : total ≤ start + 23 * i
-
-pub summing-starts : (cs ns : List ℕ) (start c : ℕ) → MayFollow c (paired cs ns) → Summing cs ns start start 0
-summing-starts cs ns start c b = record { sum = λ more. refl; earlier = c; behind = b; short = omega arith }
 
 module _ {cs ns : List ℕ} {start total i : ℕ} (w : Summing cs ns start total i) where
   pub summing-next : length cs ≡ length ns → i + 1 < length cs → {x : ℕ}
@@ -440,16 +401,16 @@ module _ {cs ns : List ℕ} {start total i : ℕ} (w : Summing cs ns start total
         short = omega (arith, w.short, m.short);
       })
 
-  pub summing-ends : (c n : ℕ) (s : Bool) (b : TokensBehind c cs ns) (h : length cs ≢ 0) → {x : ℕ} → Measured (word (run c n s)) 23 x → start ≡ x + 1
+  pub summing-ends : (c n : ℕ) (s : Bool) (p : length cs ≡ length ns) (b : TokensBehind c cs ns) (h : length cs ≢ 0) → {x : ℕ} → Measured (word (run c n s)) 23 x → start ≡ x + 1
       → (m : ℕ) → i ≡ m → suc m ≡ length cs → get_or ns m 0 < 4294967296
       → PartMeasured (sn_part 0 (token c n s) cs ns) (sn_on 0 (token (get_or cs m 0) (get_or ns m 0) false)) (47 * length cs) total
       × OpenRun (token c n s) cs (token (get_or cs m 0) (get_or ns m 0) false)
-  summing-ends c n s b h {x} r z m e f y =
-      let last : drop i (paired cs ns) ≡ token (get_or cs m 0) (get_or ns m 0) false ∷ [] = rw e (last-token cs ns m b.long f) in (
+  summing-ends c n s p b h {x} r z m e f y =
+      let last : drop i (paired cs ns) ≡ token (get_or cs m 0) (get_or ns m 0) false ∷ [] = rw e (last-token cs ns m p f) in (
         record {
           whole = λ more. omega (
             arith,
-            ap {B = ℕ} length (first-text c n s b h more),
+            ap {B = ℕ} length (first-text c n s p b h more),
             length-append (word (run c n s) ++ (32 ∷ [])) (sn_of 0 (paired cs ns ++ more)),
             length-append (word (run c n s)) (32 ∷ []),
             rw last at (w.sum more),
@@ -470,9 +431,6 @@ pub record Listing (cs ns old out : List ℕ) (from : Left) (buf new : List ℕ)
   pub earlier : ℕ
   pub behind : MayFollow earlier (drop i (paired cs ns))
   pub wrote : Added old out from done buf new to
-
-pub listing-starts : (cs ns buf out : List ℕ) (from : Left) (c : ℕ) → MayFollow c (paired cs ns) → from.left ≤ 1984 → Listing cs ns buf out from buf out from 0
-listing-starts cs ns buf out from c b l = record { done = []; whole = λ more. refl; earlier = c; behind = b; wrote = added_none l }
 
 pub listing-low : {cs ns old out : List ℕ} {from : Left} {buf mid : List ℕ} {to : Left} {i : ℕ} → Listing cs ns old out from buf mid to i
     → length cs ≡ length ns → i + 1 < length cs → get_or cs i 0 ≤ 4
@@ -502,13 +460,13 @@ module _ {cs ns old out : List ℕ} {from : Left} {buf mid : List ℕ} {to : Lef
       })
 
 -- the open run comes before them
-module _ (c n : ℕ) (s : Bool) {cs ns : List ℕ} (b : TokensBehind c cs ns) (h : length cs ≢ 0) {buf new : List ℕ} {k full : ℕ}
+module _ (c n : ℕ) (s : Bool) {cs ns : List ℕ} (p : length cs ≡ length ns) (b : TokensBehind c cs ns) (h : length cs ≢ 0) {buf new : List ℕ} {k full : ℕ}
     (g : Grown buf new k (word (run c n s) ++ (32 ∷ [])) full) where
   abbrev front : List ℕ
   front = word (run c n s) ++ (32 ∷ [])
 
   abbrev opens : (more : List Token) → sn_part 0 (token c n s) cs ns more ≡ front ++ sn_of 0 (paired cs ns ++ more)
-  opens = first-text c n s b h
+  opens = first-text c n s p b h
 
   pub first-room : {out : List ℕ} {place : ℕ} → PartRoom (sn_part 0 (token c n s) cs ns) buf out (goes_on place k) → Room out place (take full new)
   first-room r = grown-room front g _ (rw (opens r.more) at r.room)
@@ -523,7 +481,7 @@ module _ (c n : ℕ) (s : Bool) {cs ns : List ℕ} (b : TokensBehind c cs ns) (h
         → PartWritten (sn_part 0 (token c n s) cs ns) (sn_on 0 (token (get_or cs m 0) (get_or ns m 0) false)) buf out (goes_on place k) buf' new' to'
         × OpenRun (token c n s) cs (token (get_or cs m 0) (get_or ns m 0) false)
     listing-ends {i = i} w m e l x =
-        let last : drop i (paired cs ns) ≡ token (get_or cs m 0) (get_or ns m 0) false ∷ [] = rw e (last-token cs ns m b.long l) in (
+        let last : drop i (paired cs ns) ≡ token (get_or cs m 0) (get_or ns m 0) false ∷ [] = rw e (last-token cs ns m p l) in (
           record {
             done = front ++ w.done;
             whole = λ more. opens more ∙ ap (λ (l : List ℕ). front ++ l) (w.whole more) ∙ sym (append_assoc front w.done _) ∙ rw last;
@@ -534,41 +492,12 @@ module _ (c n : ℕ) (s : Bool) {cs ns : List ℕ} (b : TokensBehind c cs ns) (h
 
 -- ---- a part is measured, run by run
 
--- how many bytes a long break has
-module _ (k g : ℕ) where
-  pub long-none : (ltb 1 g && ltb k g) ≡ false → Measured (ended k (long_break k g)) 23 0
-  long-none e = rw e (record { number = refl; short = omega arith })
-
-  pub long-parens : k ≡ 0 → (ltb 1 g && ltb k g) ≡ true → {r : ℕ} → DigitCount g r → Measured (ended k (long_break k g)) 23 (3 + r)
-  long-parens z e d = rw (e, z) (record { number = simp length-append (omega (arith, d.number)); short = omega (arith, d.most) })
-
-  pub long-sign : k ≢ 0 → (ltb 1 g && ltb k g) ≡ true → Measured (ended k (long_break k g)) 23 2
-  long-sign z e = rw (e, sign-item k g z) (record { number = simp length-append (omega (arith, sign-one 32 g)); short = omega arith })
-
-pub group-length : (k : ℕ) (t : Token) (c n : ℕ) (s : Bool) (g : ℕ) {a b : ℕ} → WithBreak k t g (token c n s) → Measured (word (run c n s)) 23 a
-    → Measured (ended k (long_break k g)) 23 b → Measured (ended k (shown k (t ∷ break_tokens g))) 47 (a + 1 + b)
-group-length k t c n s g w x y =
-    rw (w.shows, run-item (break_item k) c n s w.run)
-    (record {
-      number = omega (
-        arith,
-        x.number,
-        y.number,
-        length-append (word (run c n s)) (32 ∷ []),
-        length-append (word (run c n s) ++ (32 ∷ [])) (ended k (long_break k g)),
-      );
-      short = omega (arith, x.short, y.short);
-    })
-
 -- `total` bytes are counted of it
 pub record Counting (k : ℕ) (t : Token) (cs ns : List ℕ) (u : Token) (total i : ℕ) : Type 0 where
   pub done : List ℕ
   pub opened : Opened k t cs ns done u i
   pub number : total ≡ length done
   pub short : total ≤ 47 * i
-
-pub counting-starts : (k : ℕ) (t : Token) {cs ns : List ℕ} → TokensBehind (class t) cs ns → Counting k t cs ns t 0 0
-counting-starts k t h = record { done = []; opened = opened-starts k t h; number = refl; short = omega arith }
 
 module _ {k : ℕ} {t : Token} {cs ns : List ℕ} {u : Token} {total i : ℕ} (w : Counting k t cs ns u total i) where
   pub counting-ends : length cs ≤ i → PartMeasured (sn_part k t cs ns) (sn_on k u) (47 * length cs) total × OpenRun t cs u

@@ -1,6 +1,6 @@
 -- SN texts in one walk: one turn of a text, the turns one after the other, and the run that is left.
 -- Assumes nothing.
-use Prim.Native.Nat.{ℕ, zero, suc, ◌+◌, ◌*◌, ◌≤◌, ◌<◌}
+use Prim.Native.Nat.{ℕ, zero, suc, ◌+◌, ◌*◌, ◌≤◌}
 use mathlib.Core.Path.{◌≡◌, refl, sym, ap, ◌∙◌}
 use mathlib.Core.Bool.{Bool, true, false, ◌&&◌, and-eq-true_iff}
 use mathlib.Core.Logic.{◌≢◌}
@@ -17,7 +17,6 @@ use Rattle.rules.specs.Slices.{paired, total}
 use Rattle.rules.proofs.Steps.{drop-run, short-long}
 use Rattle.rules.proofs.Cost.{total-append}
 use Rattle.number.specs.Grown.{Grown}
-use Rattle.text_buffer.specs.Parts.{TokensBehind}
 use Rattle.text_buffer.specs.Runs.{run_token, run_text}
 use Rattle.text_buffer.specs.declared.run.Run.{Run}
 use Rattle.text_buffer.proofs.Bytes.{measures-short, measured-run, sign-one}
@@ -28,7 +27,7 @@ use Rattle.sn_text.specs.SnThree.{Turned, OpenedIn}
 use Rattle.sn_text.specs.declared.three.Turn.{Turn}
 use Rattle.sn_text.proofs.Groups.{break-tokens}
 use Rattle.sn_text.proofs.SnParts.{joins-over, run-item, joined-text, apart-text, near-shown, else-shown}
-use Rattle.sn_text.proofs.SnParts.{Opened, opened-starts, opened-low, opened-whole, on-text}
+use Rattle.sn_text.proofs.SnParts.{Opened, opened-low, opened-whole, on-text}
 
 -- ---- how many bytes a run and a break take, with numbers of the domain
 
@@ -114,10 +113,6 @@ pub record Walking (k : ℕ) (t : Token) (cs ns old new : List ℕ) (r : Turn) (
   pub short : r.place ≤ 11 * i
   pub few : r.run.length + total (drop i (paired cs ns)) ≤ 1048576
 
-pub walking-starts : (k : ℕ) (first : Run) {cs ns : List ℕ} (buf : List ℕ) → TokensBehind first.class cs ns → first.length + total (paired cs ns) ≤ 1048576
-    → Walking k (run_token first) cs ns buf buf (record { run = first; place = 0 }) 0
-walking-starts k first buf h l = record { done = []; opened = opened-starts k (run_token first) h; grown = grown-none; short = omega arith; few = l }
-
 module _ {k : ℕ} {t : Token} {cs ns old buf : List ℕ} {r : Turn} {i : ℕ} (w : Walking k t cs ns old buf r i) where
   pub walking-low : r.run.class ≤ 4
   walking-low = opened-low w.opened
@@ -132,10 +127,6 @@ module _ {k : ℕ} {t : Token} {cs ns old buf : List ℕ} {r : Turn} {i : ℕ} (
         low = walking-low;
         room = omega (arith, w.grown.long, w.short, w.opened.within);
       }
-
-  -- room for the next turn
-  pub walking-room : i < length cs → 11 * length cs + 52 ≤ length old → r.place + 52 ≤ length buf
-  walking-room h l = omega (arith, w.grown.long, w.short)
 
   module _ {g d n next : ℕ} (a : RunAt cs ns i g d n next) where
     -- so have the open run, the break, the next run and the tokens behind it

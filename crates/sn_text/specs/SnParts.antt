@@ -1,6 +1,6 @@
 -- SN texts of tokens, and what the functions that write or measure a part of one promise each other.
 -- Assumes nothing.
-use Rattle.std.specs.Prelude.{ℕ, ◌+◌, ◌*◌, ◌^◌, ◌≤◌, ◌<◌, ◌≡◌, false, cond, ◌&&◌, ◌≢◌, List, ◌∷◌, ◌++◌, map, [], ltb, leb, length, drop}
+use Rattle.std.specs.Prelude.{ℕ, ◌+◌, ◌*◌, ◌^◌, ◌≤◌, ◌<◌, ◌≡◌, false, cond, ◌&&◌, ◌≢◌, List, ◌∷◌, ◌++◌, map, [], ltb, leb, length, drop, get_or}
 use Rattle.rules.specs.Bytes.{bytes}
 use Rattle.rules.specs.Chart.{Token, token, class, len}
 use Rattle.rules.specs.Reduced.{Item, item}
@@ -15,6 +15,7 @@ use Rattle.text_buffer.specs.declared.buffer.Left.{Left}
 use Rattle.text_buffer.specs.declared.run.Done.{Done}
 use Rattle.text_buffer.specs.declared.run.Run.{Run}
 use Rattle.text_buffer.specs.declared.run.Tally.{Tally}
+use Rattle.sn_text.specs.declared.sn.RunPlace.{RunPlace}
 use Rattle.sn_text.specs.Sn.{break_item, break_tokens, shown, sn_at}
 
 -- items parted by one space
@@ -40,11 +41,11 @@ pub record OpenRun (t : Token) (cs : List ℕ) (u : Token) : Type 0 where
   pub low : class u ≤ 4
   pub small : len u ≤ len t + 4294967296 * length cs
 
--- a part can be written: an open run, the tokens behind it, the table, a buffer that has room, and room for the text of all this
-pub record SnAsked (k : ℕ) (t : Run) (cs ns table buf out : List ℕ) (from : Left) : Type 0 where
+-- a part can be written: an open run, the tokens behind it, a buffer that has room, and room for the text of all this
+pub record SnAsked (k : ℕ) (t : Run) (cs ns buf out : List ℕ) (from : Left) : Type 0 where
   pub tokens : TokensBehind t.class cs ns
   pub short : t.length ≤ 2 ^ 62
-  pub ready : Ready buf from.left table
+  pub ready : Ready buf from.left
   pub room : PartRoom (sn_part k (run_token t) cs ns) buf out from
 
 -- it is written, but for the run that is open behind it
@@ -71,7 +72,6 @@ join_class k c g = cond (ltb 0 g && leb g k) c 0
 
 -- a place with a token, behind one of the class `earlier`
 pub record TokenAt (cs ns : List ℕ) (i : ℕ) : Type 0 where
-  pub long : length cs ≡ length ns
   pub inside : i < length cs
   pub earlier : ℕ
   pub behind : MayFollow earlier (drop i (paired cs ns))
@@ -83,6 +83,10 @@ pub record RunAt (cs ns : List ℕ) (i g c n next : ℕ) : Type 0 where
   pub behind : MayFollow c (drop next (paired cs ns))
   pub on : next ≡ i + length (break_tokens g) + 1
   pub within : next ≤ length cs
+
+-- that break and run, as they are found
+abbrev pub RunPlaced : List ℕ → List ℕ → ℕ → RunPlace → Type 0
+RunPlaced cs ns i r = RunAt cs ns i r.gap (get_or cs r.place 0) (get_or ns r.place 0) (r.place + 1)
 
 -- a run t and a break of g over which no run joins are shown as a run u, and the break if it is a long one
 pub record WithBreak (k : ℕ) (t : Token) (g : ℕ) (u : Token) : Type 0 where

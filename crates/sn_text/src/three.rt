@@ -3,13 +3,14 @@ ghost use Rattle.std.specs.Prelude.{ℕ, ◌+◌, ◌^◌, ◌≤◌, ◌<◌, �
 ghost use Rattle.rules.specs.Slices.{paired};
 ghost use Rattle.text_buffer.specs.Three.{ThreeAsked, ThreeGrown};
 ghost use Rattle.text_buffer.specs.Runs.{run_token};
-ghost use Rattle.text_buffer.specs.Words.{Words};
 ghost use Rattle.sn_text.specs.SnParts.{sn_of};
 ghost use Rattle.sn_text.specs.SnThree.{Turned, ThreeOpened};
 
 use crate::sn::{add_group, add_token, join_class, run_place};
+use rules::tokens::Tokens;
 use text_buffer::run::{Run, add_ended, add_run, open_run};
 use text_buffer::three::Three;
+use text_buffer::words::WordTable;
 
 // The run that is open in a text, and the next place of its buffer.
 #[derive(Clone, Copy)]
@@ -27,8 +28,8 @@ struct Turns {
 }
 
 // The next run right behind the open one, which is written: in no text do they join.
-fn adjacent_turn(buf: &mut [u8], k: usize, last: Run, next: Run, words: &[u32; 192]) -> Turn
-    requires { (k + 52 ≤ length buf.old) × Words words.now × (last.class ≢ 0) × (last.class ≤ 4) × (next.class ≢ 0) }
+fn adjacent_turn(buf: &mut [u8], k: usize, last: Run, next: Run, words: &WordTable) -> Turn
+    requires { (k + 52 ≤ length buf.old) × (last.class ≢ 0) × (last.class ≤ 4) × (next.class ≢ 0) }
     ensures { (limit : ℕ) → Turned limit (run_token last) 0 (run_token next) buf.old k buf.new result }
 {
     Turn {
@@ -44,9 +45,9 @@ fn detailed_turn(
     last: Run,
     gap: u32,
     next: Run,
-    words: &[u32; 192],
+    words: &WordTable,
 ) -> Turn
-    requires { (k + 52 ≤ length buf.old) × Words words.now × (1 ≤ gap) × (last.class ≢ 0) × (last.class ≤ 4) × (next.class ≢ 0) }
+    requires { (k + 52 ≤ length buf.old) × (1 ≤ gap) × (last.class ≢ 0) × (last.class ≤ 4) × (next.class ≢ 0) }
     ensures { Turned 0 (run_token last) gap (run_token next) buf.old k buf.new result }
 {
     let place = add_ended(buf, k, last, words);
@@ -64,9 +65,9 @@ fn joined_turn(
     last: Run,
     gap: u32,
     next: Run,
-    words: &[u32; 192],
+    words: &WordTable,
 ) -> Turn
-    requires { (k + 52 ≤ length buf.old) × Words words.now × (1 ≤ limit) × (last.class ≢ 0) × (last.class ≤ 4) × (next.class ≢ 0)
+    requires { (k + 52 ≤ length buf.old) × (1 ≤ limit) × (last.class ≢ 0) × (last.class ≤ 4) × (next.class ≢ 0)
         × (last.length + (gap + next.length) < 2 ^ 64) }
     ensures { Turned limit (run_token last) gap (run_token next) buf.old k buf.new result }
 {
@@ -88,16 +89,15 @@ fn joined_turn(
 
 // All but the last run of each text, behind the first.
 fn three_turns(
-    cs: &[u8],
-    ns: &[u32],
+    tokens: Tokens,
     first: Run,
-    words: &[u32; 192],
+    words: &WordTable,
     detailed: &mut [u8],
     partial: &mut [u8],
     simplified: &mut [u8],
 ) -> Turns
-    requires { ThreeAsked first.class first.length cs.now ns.now words.now detailed.old partial.old simplified.old }
-    ensures { ThreeOpened (run_token first) cs.now ns.now detailed.old detailed.new partial.old
+    requires { ThreeAsked first.class first.length tokens.classes.now tokens.lengths.now detailed.old partial.old simplified.old }
+    ensures { ThreeOpened (run_token first) tokens.entry.classes.now tokens.entry.lengths.now detailed.old detailed.new partial.old
         partial.new simplified.old simplified.new result }
 {
     let mut a = Turn {
@@ -107,10 +107,11 @@ fn three_turns(
     let mut b = a;
     let mut c = a;
     let mut i: usize = 0;
-    while i < cs.len() {
-        let t = run_place(cs, ns, i);
+    // a turn takes one token or two
+    while i < tokens.len() {
+        let t = run_place(tokens, i);
         let j = t.place;
-        let next = open_run(cs[j], ns[j]);
+        let next = open_run(tokens.classes[j], tokens.lengths[j]);
         if j == i {
             a = adjacent_turn(detailed, a.place, a.run, next, words);
             b = adjacent_turn(partial, b.place, b.run, next, words);
@@ -131,20 +132,19 @@ fn three_turns(
 
 // The texts of a chart's first run and of the tokens behind it; how many bytes each has is answered.
 pub fn sn_three(
-    cs: &[u8],
-    ns: &[u32],
+    tokens: Tokens,
     first: Run,
-    words: &[u32; 192],
+    words: &WordTable,
     detailed: &mut [u8],
     partial: &mut [u8],
     simplified: &mut [u8],
 ) -> Three
-    requires { ThreeAsked first.class first.length cs.now ns.now words.now detailed.old partial.old simplified.old }
+    requires { ThreeAsked first.class first.length tokens.classes.now tokens.lengths.now detailed.old partial.old simplified.old }
     ensures { ThreeGrown detailed.old detailed.new partial.old partial.new simplified.old
-        simplified.new (sn_of 0 (run_token first ∷ paired cs.now ns.now))
-        (sn_of 1 (run_token first ∷ paired cs.now ns.now)) (sn_of 4 (run_token first ∷ paired cs.now ns.now)) result }
+        simplified.new (sn_of 0 (run_token first ∷ paired tokens.entry.classes.now tokens.entry.lengths.now))
+        (sn_of 1 (run_token first ∷ paired tokens.entry.classes.now tokens.entry.lengths.now)) (sn_of 4 (run_token first ∷ paired tokens.entry.classes.now tokens.entry.lengths.now)) result }
 {
-    let t = three_turns(cs, ns, first, words, detailed, partial, simplified);
+    let t = three_turns(tokens, first, words, detailed, partial, simplified);
     let a = t.detailed;
     let b = t.partial;
     let c = t.simplified;

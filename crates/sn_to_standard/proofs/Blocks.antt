@@ -7,7 +7,7 @@ use mathlib.Core.List.{List, [], ◌∷◌, ◌++◌, append-nil}
 use native.Mathlib.Numerals.{add-one}
 use native.Mathlib.Omega.{arith}
 use lib.Dec.{ltb, eqb}
-use lib.ListN.{length, take, drop, get_or, set, length-append, length-take, length-drop, take-append-drop, drop_of_length-le}
+use lib.ListN.{length, take, drop, get_or, set, length-append, length-drop, take-append-drop, drop_of_length-le}
 use lib.Seq.{take-suc, take-suc-set, drop-cons, drop-drop, get_or-drop}
 use borrow.Author.Tests.{eqb-true}
 use Rattle.number.proofs.Split.{split}
@@ -96,9 +96,6 @@ module _ (text : List ℕ) where
 -- ---- a block
 
 module _ {text : List ℕ} {i n : ℕ} (g : Block text i n) where
-  pub part_length : length (shown_part text i n) ≡ n
-  part_length = simp (length-take, length-drop, shown-length) (omega (arith, g.last))
-
   module _ (j : ℕ) (h : j < n) where
     -- the byte that is due at j
     due : get_or (drop i (shown_bytes 41 text)) j 0 ≡ shown_byte (get_or text (i + j - 1) 0) (get_or text (i + j) 0) (get_or text (i + j + 1) 0)

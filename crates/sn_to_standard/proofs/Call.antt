@@ -8,13 +8,13 @@ use mathlib.Core.List.{List, [], ◌∷◌}
 use native.Mathlib.Omega.{arith}
 use lib.Dec.{leb}
 use lib.ListN.{length}
-use borrow.Author.Tests.{leb-true, leb-false, not-true, not-false}
-use Rattle.number.specs.Questions.{Question, first_no, accepted, filled, room_for, OneText}
+use borrow.Author.Tests.{leb-true, leb-false}
+use Rattle.number.specs.Questions.{Question, first_no, accepted, room_for, OneText}
 use Rattle.number.specs.Place.{Room, Wrote}
 use Rattle.number.specs.declared.Written.{Written}
 use Rattle.number.proofs.Split.{split}
 use Rattle.number.proofs.Questions.{refused-is}
-use Rattle.number.proofs.Push.{room-yes, refused-4}
+use Rattle.number.proofs.Push.{room-yes, refused-4, refused}
 use Rattle.number.proofs.Place.{one-text}
 use Rattle.rules.specs.Bytes.{bytes}
 use Rattle.rules.specs.Slices.{total}
@@ -58,42 +58,40 @@ is-empty [] h = refl
 is-empty (x ∷ xs) h = absurd (omega arith)
 
 -- a text that passes 18 is not refused unread
-pub call-short : (t : List ℕ) (n : ℕ) → n ≡ text_no t → n ≡ 0 → length t ≤ 4194304
-call-short t n e z =
+pub call-short : (t : List ℕ) → 0 ≡ text_no t → length t ≤ 4194304
+call-short t e =
     split (leb (length t) 4194304) (leb-true (length t) 4194304)
-    (λ h. let k = long-fails t (leb-false (length t) 4194304 h) in absurd (omega (arith, e, z)))
+    (λ h. let k = long-fails t (leb-false (length t) 4194304 h) in absurd (omega (arith, e)))
 
 -- ---- the call
 
-module _ (t old : List ℕ) (n : ℕ) (e : n ≡ text_no t) where
-  call-no : sn_to_standard_no t old ≡ accepted n (first_no (room_for (converted t) old ∷ [])) n
+module _ (t old : List ℕ) where
+  call-no : (n : ℕ) → n ≡ text_no t → sn_to_standard_no t old ≡ accepted n (first_no (room_for (converted t) old ∷ [])) n
   unfolding text_no sn_to_standard_no
-  call-no = rw e (room-last (reading t) (room_for (converted t) old))
+  call-no n e = rw e (room-last (reading t) (room_for (converted t) old))
 
-  pub call-refused : n ≢ 0 → SnToStandard t old old (record { refused = n; length = 0 })
-  call-refused h =
-      rw (call-no, refused-is n (first_no (room_for (converted t) old ∷ [])) n h)
-      (record { answer = rw (refused-is n (length (converted t)) 0 h); bytes = sym (refused-is n (filled old (converted t)) old h) })
+  pub call-refused : (n : ℕ) → n ≡ text_no t → n ≢ 0 → SnToStandard t old old (record { refused = n; length = 0 })
+  call-refused n e h = rw (call-no n e, refused-is n (first_no (room_for (converted t) old ∷ [])) n h) (refused (converted t) old n h)
 
-  module _ (z : n ≡ 0) {new : List ℕ} {r : Written} where
+  module _ (e : 0 ≡ text_no t) {new : List ℕ} {r : Written} where
     by-room : (text : List ℕ) → converted t ≡ text → OneText (first_no (room_for text old ∷ [])) text old new r → SnToStandard t old new r
-    by-room text q h = rw (call-no, z, q) h
+    by-room text q h = rw (call-no 0 e, q) h
 
     pub call-empty : length t ≡ 0 → OneText (first_no (room_for (bytes "No Streams!") old ∷ [])) (bytes "No Streams!") old new r → SnToStandard t old new r
     call-empty l h = by-room (bytes "No Streams!") (is-empty t l) h
 
     pub call-copied : length t ≢ 0 → OneText (first_no (room_for (copied t) old ∷ [])) (copied t) old new r → SnToStandard t old new r
     unfolding text_no
-    call-copied l h = by-room (copied t) (is-copied t (reading t) (λ q. l (ap length q)) refl (rw (← e) z)) h
+    call-copied l h = by-room (copied t) (is-copied t (reading t) (λ q. l (ap length q)) refl (sym e)) h
 
 -- ---- room
 
 module _ {b : Bool} {text old : List ℕ} (e : b ≡ leb (length text) (length old)) where
-  pub no_room : not b ≡ true → OneText (first_no (room_for text old ∷ [])) text old old (record { refused = 4; length = 0 })
-  no_room h = refused-4 text old (leb-false (length text) (length old) (sym e ∙ not-true b h))
+  pub no_room : b ≡ false → OneText (first_no (room_for text old ∷ [])) text old old (record { refused = 4; length = 0 })
+  no_room h = refused-4 text old (leb-false (length text) (length old) (sym e ∙ h))
 
-  pub has_room : not b ≡ false → Room old 0 text
-  has_room h = record { fits = omega (arith, leb-true (length text) (length old) (sym e ∙ not-false b h)) }
+  pub has_room : b ≡ true → Room old 0 text
+  has_room h = record { fits = omega (arith, leb-true (length text) (length old) (sym e ∙ h)) }
 
 pub put_whole : {text old new : List ℕ} {n : ℕ} → Room old 0 text → Wrote old new 0 text n
     → OneText (first_no (room_for text old ∷ [])) text old new (record { refused = 0; length = n })

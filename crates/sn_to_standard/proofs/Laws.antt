@@ -4,7 +4,7 @@ use Prim.Native.Nat.{ℕ, ◌*◌, ◌≤◌, ◌<◌}
 use mathlib.Core.Path.{◌≡◌, refl, sym, ap, ◌∙◌}
 use mathlib.Core.Bool.{Bool, true, false, not}
 use mathlib.Core.Logic.Iff
-use mathlib.Core.Logic.{◌↔◌, ◌⊎◌, ⊎_elim}
+use mathlib.Core.Logic.{◌↔◌, ◌⊎◌, ⊎_elim, ◌≢◌}
 use mathlib.Core.List.{List, [], ◌∷◌}
 use native.Mathlib.Omega.{arith}
 use lib.Dec.{leb}
@@ -130,6 +130,20 @@ long-fails t h =
     let c = (converts t p).some in
     let most : length (sn_text c.m) ≤ 4 * length c.m = text-most c.m _ in
     omega (arith, c.few, ap length c.has))
+
+-- a text that is refused, and not by 18, is refused by 19
+left : (a b : Bool) → let n = first_no (question 18 a ∷ question 19 b ∷ []) in n ≢ 0 → n ≢ 18 → 19 ≡ n
+left true true z h = absurd (z refl)
+left true false z h = refl
+left false b z h = absurd (h refl)
+
+left-read : (r : Reading) → let n = first_no (within_rules r ∷ decided r ∷ []) in n ≢ 0 → n ≢ 18 → 19 ≡ n
+left-read outside = left false true
+left-read (inside ts) = left (leb (total (with_gaps ts)) 1048576) (not (undecided ts))
+
+pub undecided-left : (t : List ℕ) → text_no t ≢ 0 → text_no t ≢ 18 → 19 ≡ text_no t
+unfolding text_no
+undecided-left t = left-read (reading t)
 
 answers : (t old new : List ℕ) (r : Written) → SnToStandard t old new r → Answers t old new r
 unfolding sn_to_standard_no

@@ -6,41 +6,42 @@ ghost use Rattle.number.specs.Grown.{Grown};
 ghost use Rattle.number.specs.Place.{Room, Wrote};
 ghost use Rattle.sn_to_standard.specs.Copied.{shown_space, shown_byte, kept_byte, kept, copied, Block, shown_part};
 
-use text_buffer::buffer::put_buffer;
+use text_buffer::put::put_bytes;
 
-// A space as it is shown, by the bytes before and behind it.
-fn shown_space(before: u8, behind: u8) -> u8
-    ensures { result ≡ shown_space before behind }
+// How many bytes are shown at a time.
+const BLOCK: usize = 256;
+
+// A space as it is shown, by the bytes before and after it.
+fn shown_space(before: u8, after: u8) -> u8
+    ensures { result ≡ shown_space before after }
 {
-    if before == b')' {
+    if before == b')' || after == b'(' {
         b' '
     } else {
-        if behind == b'(' { b' ' } else { b'-' }
+        b'-'
     }
 }
 
 // A byte as it is shown. No branch decides what is read, so that the compiler does many bytes at a time.
-fn shown_byte(before: u8, b: u8, behind: u8) -> u8
-    ensures { result ≡ shown_byte before b behind }
+fn shown_byte(before: u8, b: u8, after: u8) -> u8
+    ensures { result ≡ shown_byte before b after }
 {
-    let space = shown_space(before, behind);
+    let space = shown_space(before, after);
     if b == b' ' { space } else { b }
 }
 
 // Each byte of a block as it is shown.
-fn fill_block(text: &[u8], i: usize, n: usize, block: &mut [u8; 256])
+fn fill_block(text: &[u8], i: usize, n: usize, block: &mut [u8; BLOCK])
     requires { Block text.now i n × (length block.old ≡ 256) }
     ensures { take n block.new ≡ shown_part text.now i n }
 {
-    let mut j: usize = 0;
-    while j < n {
+    for j in 0..n {
         block[j] = shown_byte(text[i + j - 1], text[i + j], text[i + j + 1]);
-        j += 1;
     }
 }
 
-// A byte behind the first k of a buffer, unless it is a mark; the next place is answered.
-fn add_kept(buf: &mut [u8; 256], k: usize, b: u8) -> usize
+// A byte after the first k of a buffer, unless it is a mark; the next place is answered.
+fn add_kept(buf: &mut [u8; BLOCK], k: usize, b: u8) -> usize
     requires { (k < 256) × (length buf.old ≡ 256) }
     ensures { Grown buf.old buf.new k (kept_byte b) result }
 {
@@ -48,16 +49,14 @@ fn add_kept(buf: &mut [u8; 256], k: usize, b: u8) -> usize
     if b > b'9' { k } else { k + 1 }
 }
 
-// The first n bytes of a block, without its marks, at the start of a buffer.
-fn add_block(buf: &mut [u8; 256], block: &[u8; 256], n: usize) -> usize
-    requires { (n ≤ 256) × (length buf.old ≡ 256) × (n ≤ length block.now) }
-    ensures { Grown buf.old buf.new 0 (kept (take n block.now)) result }
+// The bytes of a block, without its marks, at the start of a buffer.
+fn add_block(buf: &mut [u8; BLOCK], block: &[u8]) -> usize
+    requires { (length block.now ≤ 256) × (length buf.old ≡ 256) }
+    ensures { Grown buf.old buf.new 0 (kept block.now) result }
 {
     let mut k: usize = 0;
-    let mut j: usize = 0;
-    while j < n {
-        k = add_kept(buf, k, block[j]);
-        j += 1;
+    for &b in block {
+        k = add_kept(buf, k, b);
     }
     k
 }
@@ -67,20 +66,11 @@ fn put_block(text: &[u8], i: usize, n: usize, out: &mut [u8], place: usize) -> u
     requires { Block text.now i n × Room out.old place (kept (shown_part text.now i n)) }
     ensures { Wrote out.old out.new place (kept (shown_part text.now i n)) result }
 {
-    let mut block = [0u8; 256];
-    let mut buf = [0u8; 256];
+    let mut block = [0u8; BLOCK];
+    let mut buf = [0u8; BLOCK];
     fill_block(text, i, n, &mut block);
-    let k = add_block(&mut buf, &block, n);
-    put_buffer(out, place, &buf, k)
-}
-
-fn block_length(left: usize) -> usize
-    ensures { (result ≤ left) × (result ≤ 256) × (1 ≤ left → 1 ≤ result) }
-{
-    if left < 256 {
-        return left;
-    }
-    256
+    let k = add_block(&mut buf, &block[..n]);
+    put_bytes(out, place, &buf[..k])
 }
 
 // One byte that stands at an end of the text, so that no space is changed.
@@ -105,27 +95,20 @@ pub fn put_copied(text: &[u8], out: &mut [u8]) -> usize
     if last == 0 {
         return place;
     }
-    let mut i: usize = 1;
-    while i < last {
-        let n = block_length(last - i);
-        place = put_block(text, i, n, out, place);
-        i += n;
+    for i in (1..last).step_by(BLOCK) {
+        place = put_block(text, i, BLOCK.min(last - i), out, place);
     }
     put_end(text[last], out, place)
 }
 
-// Its length: the bytes that are no marks. It is counted in 32 bits, since the compiler then takes more bytes at a time.
+// Its length: the bytes that are no marks. It is counted in 32 bits, and not by `count`, since the compiler then takes four times as many bytes at a time.
 fn copied_length(text: &[u8]) -> u32
     requires { length text.now ≤ 4194304 }
     ensures { result ≡ length (copied text.now) }
 {
     let mut n: u32 = 0;
-    let mut i: usize = 0;
-    while i < text.len() {
-        if text[i] <= b'9' {
-            n += 1;
-        }
-        i += 1;
+    for &b in text {
+        n += u32::from(b <= b'9');
     }
     n
 }
@@ -135,8 +118,5 @@ pub fn copy_fits(text: &[u8], room: usize) -> bool
     requires { length text.now ≤ 4194304 }
     ensures { result ≡ leb (length (copied text.now)) room }
 {
-    if text.len() <= room {
-        return true;
-    }
-    copied_length(text) as usize <= room
+    text.len() <= room || copied_length(text) as usize <= room
 }

@@ -1,6 +1,7 @@
 // The reader: whether a text is inside the rules, and whether it is decided. The class that is passed on is that of the run before (0 at the
 // start and behind a break), beside the measures so far and whether a gap was undecided.
 ghost use Rattle.std.specs.Prelude.{◌≤◌, ◌≡◌, false, ◌||◌, drop};
+ghost use Rattle.number.specs.Refusal.{carried};
 ghost use Rattle.rules.specs.Chart.{token};
 ghost use Rattle.sn_to_standard.specs.Converted.{two_classes};
 ghost use Rattle.sn_to_standard.specs.Promises.{text_no};
@@ -8,6 +9,7 @@ ghost use Rattle.sn_to_standard.specs.Items.{Within, more_measures};
 ghost use Rattle.sn_to_standard.specs.Descents.{StandsIn, expect_no, after_no, packed, Descended, opens};
 
 use crate::item::{read_break, read_run};
+use number::refusal::Refusal;
 
 // The measures with one more run: behind a run of its class there was a gap of 1.
 fn measures_with(before: u8, measures: u32, class: u8, length: u32) -> u32
@@ -106,7 +108,7 @@ fn after_run(text: &[u8], at: usize, class: u8, measures: u32, undecided: bool, 
 
 // 18 for a text outside the rules or with too many measures, 19 for an undecided one, else 0. A descent reads at most 64 runs. A text of more
 // than 4 bytes a measure is outside the rules.
-pub fn text_no(text: &[u8]) -> u32
+fn text_no(text: &[u8]) -> u32
     ensures { result ≡ text_no text.now }
 {
     if text.len() == 0 {
@@ -129,4 +131,18 @@ pub fn text_no(text: &[u8]) -> u32
         undecided = stop / 2097152 % 2 == 1;
         measures = (stop % 2097152) as u32;
     }
+}
+
+// Whether a text is refused: by 18 where it is outside the rules or has too many measures, by 19 where it is undecided.
+pub fn check_text(text: &[u8]) -> Result<(), Refusal>
+    ensures { carried result ≡ text_no text.now }
+{
+    let no = text_no(text);
+    if no == 0 {
+        return Ok(());
+    }
+    if no == 18 {
+        return Err(Refusal::BadSnText);
+    }
+    Err(Refusal::Undecided)
 }

@@ -19,11 +19,13 @@ use Rattle.number.specs.Grown.{Grown}
 use Rattle.text_buffer.specs.Parts.{TokensBehind}
 use Rattle.text_buffer.proofs.Bytes.{measures-short, star-short, sign-short, sign-long}
 use Rattle.number.proofs.Grown.{grown as grown-on, grown-none}
-use Rattle.rules.proofs.Pairs.{none_left}
+use Rattle.rules.proofs.Pairs.{none_left, slices-next}
+use Rattle.text_buffer.specs.MayFollow.{MayFollow}
+use native.Mathlib.Numerals.{add-one}
 use Rattle.standard_text.specs.Standard.{gap_item, standard_from}
-use Rattle.standard_text.specs.Filled.{done_text, TokenPlace}
+use Rattle.standard_text.specs.Filled.{done_text}
 use Rattle.standard_text.specs.StandardThree.{OpenedIn}
-use Rattle.standard_text.proofs.StandardParts.{run-text, over-text, apart-text, token-next, standing-first, standing-next}
+use Rattle.standard_text.proofs.StandardParts.{run-text, over-text, apart-text}
 
 -- ---- with numbers of the domain, a piece and the gap behind it have at most 22 bytes
 
@@ -47,6 +49,26 @@ module _ (b : Bool) (k n : ℕ) (s : Bool) (g m : ℕ) where
 
   pub turned_apart : k < g → Turned (done_text b n s g) m false
   turned_apart l c more h = apart-text b k n s g c m more h l ∙ rw (run-text b k 0 false c m more h, zero-add)
+
+-- ---- a place in two slices: what stands there stands after a token of class `last`
+
+pub record TokenPlace (cs ns : List ℕ) (i : ℕ) : Type 0 where
+  pub long : length cs ≡ length ns
+  pub few : length cs ≤ 1048576
+  pub within : i ≤ length cs
+  pub last : ℕ
+  pub behind : MayFollow last (drop i (paired cs ns))
+
+standing-first : {cs ns : List ℕ} → length cs ≡ length ns → TokensBehind 1 cs ns → TokenPlace cs ns 0
+standing-first l h = record { long = l; few = h.few; within = omega arith; last = 1; behind = h.behind }
+
+module _ {cs ns : List ℕ} {i : ℕ} (p : TokenPlace cs ns i) (l : i < length cs) where
+  token-next : drop i (paired cs ns) ≡ token (get_or cs i 0) (get_or ns i 0) false ∷ drop (i + 1) (paired cs ns)
+  token-next = slices-next cs ns i p.long l ∙ rw add-one
+
+  standing-next : TokenPlace cs ns (i + 1)
+  standing-next =
+      record { long = p.long; few = p.few; within = omega arith; last = get_or cs i 0; behind = (rw token-next at p.behind).1 }
 
 -- ---- a gap in two slices
 
@@ -82,9 +104,9 @@ pub record Walking (b : Bool) (k n : ℕ) (cs ns old buf : List ℕ) (place i m 
   pub few : m + total (drop i (paired cs ns)) ≤ 1048576
 
 module _ {b : Bool} {k n : ℕ} {cs ns old : List ℕ} where
-  pub walking-starts : TokensBehind 1 cs ns → n + total (paired cs ns) ≤ 1048576 → Walking b k n cs ns old old 0 0 n false
-  walking-starts h f =
-      record { done = []; text = refl; grown = grown-none; standing = standing-first h; low = omega arith; few = f }
+  pub walking-starts : length cs ≡ length ns → TokensBehind 1 cs ns → n + total (paired cs ns) ≤ 1048576 → Walking b k n cs ns old old 0 0 n false
+  walking-starts l h f =
+      record { done = []; text = refl; grown = grown-none; standing = standing-first l h; low = omega arith; few = f }
 
   module _ {buf : List ℕ} {place i m : ℕ} {t : Bool} (w : Walking b k n cs ns old buf place i m t) where
     module _ (l : i < length cs) where

@@ -4,7 +4,6 @@ use Rattle.std.specs.Prelude.{ℕ, ◌+◌, ◌^◌, ◌≤◌, ◌<◌, ◌≡�
 use Rattle.rules.specs.Chart.{Token, token}
 use Rattle.rules.specs.Slices.{paired}
 use Rattle.number.specs.Grown.{Grown}
-use Rattle.text_buffer.specs.Words.{Words}
 use Rattle.standard_text.specs.Standard.{standard_from}
 use Rattle.standard_text.specs.Filled.{done_text}
 use Rattle.standard_text.specs.declared.piece.Piece.{Piece}
@@ -35,8 +34,7 @@ pub record RunTurned (t : PieceTurns) (n : ℕ) (r : PieceTurns) : Type 0 where
   pub simple : r.simple ≡ t.simple
 
 -- a gap of g and a run of n measures can be written behind what is open
-pub record GapAsked (t : PieceTurns) (g n : ℕ) (table a b d : List ℕ) : Type 0 where
-  pub words : Words table
+pub record GapAsked (t : PieceTurns) (g n : ℕ) (a b d : List ℕ) : Type 0 where
   pub some : 1 ≤ g
   pub fits : t.joined.length + (g + n) < 2 ^ 64
   pub first : t.detailed + 45 ≤ length a

@@ -11,24 +11,25 @@ ghost use Rattle.text_buffer.specs.Parts.{PartMeasured, TokensBehind};
 ghost use Rattle.standard_text.specs.Standard.{standard_from, standard_part, gap_item};
 ghost use Rattle.number.specs.Word.{byte_text};
 ghost use Rattle.text_buffer.specs.Measured.{Measured};
-ghost use Rattle.text_buffer.specs.Words.{Words};
 ghost use Rattle.standard_text.specs.StandardParts.{StandardAsked, StandardWritten};
 
-use crate::piece::{Piece, fill};
+use crate::piece::{DonePieces, Piece};
 use number::buffer::{add_u64, add_word};
 use number::digit_count;
+use rules::tokens::Tokens;
 use text_buffer::buffer::{Left, add_byte, flush};
-use text_buffer::gap::{add_in_parens, part_word};
+use text_buffer::gap::add_in_parens;
 use text_buffer::run::{add_star, star_length};
+use text_buffer::words::WordTable;
 
-// The piece that is open behind a part, and where the text goes on.
+// The piece that is open after a part, and where the text goes on.
 #[derive(Clone, Copy)]
 pub struct StandardDone {
     pub piece: Piece,
     pub to: Left,
 }
 
-// The piece that is open behind a part, and how many bytes are done.
+// The piece that is open after a part, and how many bytes are done.
 #[derive(Clone, Copy)]
 pub struct StandardMeasured {
     pub piece: Piece,
@@ -46,8 +47,8 @@ fn first_byte(n: u32) -> u8
 }
 
 // A gap by its length: "-" for 1, else in parentheses, which are stored anyway: the place says whether they count.
-fn add_length(buf: &mut [u8], k: usize, n: u32, words: &[u32; 192]) -> usize
-    requires { (k + 24 ≤ length buf.old) × Words words.now }
+fn add_length(buf: &mut [u8], k: usize, n: u32, words: &WordTable) -> usize
+    requires { k + 24 ≤ length buf.old }
     ensures { Grown buf.old buf.new k (part (gap n)) result }
 {
     let a = add_byte(buf, k, first_byte(n));
@@ -56,17 +57,18 @@ fn add_length(buf: &mut [u8], k: usize, n: u32, words: &[u32; 192]) -> usize
     if n == 1 { a } else { c }
 }
 
-fn add_gap(buf: &mut [u8], k: usize, signs: bool, n: u32, words: &[u32; 192]) -> usize
-    requires { (k + 24 ≤ length buf.old) × Words words.now }
+fn add_gap(buf: &mut [u8], k: usize, signs: bool, n: u32, words: &WordTable) -> usize
+    requires { k + 24 ≤ length buf.old }
     ensures { Grown buf.old buf.new k (part (gap_item signs n)) result }
 {
     if signs {
-        return add_word(buf, k, part_word(words, n));
+        return add_word(buf, k, words.part_word(n));
     }
     add_length(buf, k, n, words)
 }
 
-// A piece and the gap behind it.
+// A piece and the gap after it. The piece is passed as numbers: a struct that is passed on is copied by wider loads than it was stored by, which the
+// processor has to wait for.
 pub fn add_piece(
     buf: &mut [u8],
     k: usize,
@@ -74,66 +76,68 @@ pub fn add_piece(
     starred: bool,
     gap: u32,
     signs: bool,
-    words: &[u32; 192],
+    words: &WordTable,
 ) -> usize
-    requires { (k + 45 ≤ length buf.old) × Words words.now }
+    requires { k + 45 ≤ length buf.old }
     ensures { Grown buf.old buf.new k (done_text signs n starred gap) result }
 {
-    let a = add_u64(buf, k, n, words);
+    let a = add_u64(buf, k, n, &words.table);
     let b = add_star(buf, a, starred);
     add_gap(buf, b, signs, gap, words)
 }
 
 // The pieces that are done, each with its gap.
 fn put_pieces(
-    lengths: &[u64; 16],
-    stars: &[bool; 16],
-    gaps: &[u32; 16],
+    done: &DonePieces,
     count: usize,
     signs: bool,
-    words: &[u32; 192],
+    words: &WordTable,
     buf: &mut [u8],
     out: &mut [u8],
     from: Left,
 ) -> Left
-    requires { (count ≤ 16) × Ready buf.old from.left words.now
-        × Room out.old from.place (take from.left buf.old ++ done_texts signs count lengths.now stars.now gaps.now) }
-    ensures { Added buf.old out.old from
-        (done_texts signs count lengths.now stars.now gaps.now) buf.new out.new result }
+    requires { (count ≤ 16) × Ready buf.old from.left
+        × Room out.old from.place (take from.left buf.old ++ done_texts signs count done.now) }
+    ensures { Added buf.old out.old from (done_texts signs count done.now) buf.new out.new result }
 {
     let mut to = from;
-    let mut i: usize = 0;
-    while i < count {
-        let full = add_piece(buf, to.left, lengths[i], stars[i], gaps[i], signs, words);
+    for i in 0..count {
+        let starred = done.stars[i];
+        let full = add_piece(
+            buf,
+            to.left,
+            done.lengths[i],
+            starred,
+            done.gaps[i],
+            signs,
+            words,
+        );
         to = flush(buf, out, to.place, full);
-        i += 1;
     }
     to
 }
 
-// A part: the tokens behind an open piece. The one that is open at its end is answered, and not written.
+// A part: the tokens after an open piece. The one that is open at its end is answered, and not written. The step over a token is written out, here and where
+// a part is measured: as a function that answers the next piece, as in `fill`, it was measured slower, and so was a zip of the two slices, which has two ends.
 pub fn standard_part(
-    cs: &[u8],
-    ns: &[u32],
+    tokens: Tokens,
     limit: u32,
     signs: bool,
     piece: Piece,
-    words: &[u32; 192],
+    words: &WordTable,
     buf: &mut [u8],
     out: &mut [u8],
     from: Left,
 ) -> StandardDone
-    requires { StandardAsked signs limit piece cs.now ns.now words.now buf.old out.old from }
-    ensures { StandardWritten signs limit piece cs.now ns.now buf.old out.old from buf.new
-        out.new result }
+    requires { StandardAsked signs limit piece tokens.classes.now tokens.lengths.now buf.old out.old from }
+    ensures { StandardWritten signs limit piece tokens.entry.classes.now tokens.entry.lengths.now buf.old out.old from
+        buf.new out.new result }
 {
     let mut open = piece;
     let mut to = from;
-    let mut i: usize = 0;
-    while i < cs.len() {
-        let n = ns[i];
-        let next = i + 1;
-        if cs[i] != 0 {
+    for (i, class) in tokens.classes.iter().enumerate() {
+        let n = tokens.lengths[i];
+        if *class != 0 {
             open.length += n as u64;
         } else if n <= limit {
             open.length += n as u64;
@@ -146,38 +150,36 @@ pub fn standard_part(
                 starred: false,
             };
         }
-        i = next;
     }
     StandardDone { piece: open, to }
 }
 
-// The same, for long charts of short tokens: no branch depends on the tokens, which the processor cannot predict there.
+// The same text another way, for long charts of short tokens, 16 at a time: no branch depends on the tokens, which the processor cannot predict there.
 pub fn dense_part(
-    cs: &[u8],
-    ns: &[u32],
+    tokens: Tokens,
     limit: u32,
     signs: bool,
     piece: Piece,
-    words: &[u32; 192],
+    words: &WordTable,
     buf: &mut [u8],
     out: &mut [u8],
     from: Left,
 ) -> StandardDone
-    requires { StandardAsked signs limit piece cs.now ns.now words.now buf.old out.old from }
-    ensures { StandardWritten signs limit piece cs.now ns.now buf.old out.old from buf.new
-        out.new result }
+    requires { StandardAsked signs limit piece tokens.classes.now tokens.lengths.now buf.old out.old from }
+    ensures { StandardWritten signs limit piece tokens.entry.classes.now tokens.entry.lengths.now buf.old out.old from
+        buf.new out.new result }
 {
-    let mut lengths = [0u64; 16];
-    let mut stars = [false; 16];
-    let mut gaps = [0u32; 16];
+    let mut done = DonePieces {
+        lengths: [0; 16],
+        stars: [false; 16],
+        gaps: [0; 16],
+    };
     let mut open = piece;
     let mut to = from;
-    let mut i: usize = 0;
-    while i < cs.len() {
-        let f = fill(cs, ns, limit, i, open, &mut lengths, &mut stars, &mut gaps);
-        to = put_pieces(&lengths, &stars, &gaps, f.count, signs, words, buf, out, to);
+    for (classes, lengths) in tokens.classes.chunks(16).zip(tokens.lengths.chunks(16)) {
+        let f = done.fill(Tokens { classes, lengths }, limit, open);
+        to = put_pieces(&done, f.count, signs, words, buf, out, to);
         open = f.piece;
-        i = f.next;
     }
     StandardDone { piece: open, to }
 }
@@ -193,7 +195,7 @@ fn shown_length(signs: bool, n: u32) -> usize
     if n == 1 { 1 } else { long }
 }
 
-// How long a piece and the gap behind it are.
+// How long a piece and the gap after it are.
 fn done_length(n: u64, starred: bool, signs: bool, gap: u32) -> usize
     ensures { Measured (done_text signs n starred gap) 47 result }
 {
@@ -202,24 +204,21 @@ fn done_length(n: u64, starred: bool, signs: bool, gap: u32) -> usize
 
 // How many bytes `standard_part` writes.
 pub fn standard_part_length(
-    cs: &[u8],
-    ns: &[u32],
+    tokens: Tokens,
     limit: u32,
     signs: bool,
     piece: Piece,
 ) -> StandardMeasured
-    requires { TokensBehind 1 cs.now ns.now × (piece.length ≤ 2 ^ 62) }
-    ensures { PartMeasured (standard_part signs limit piece.length piece.starred cs.now ns.now)
-        (standard_from signs limit result.piece.length result.piece.starred) (47 * length cs.now) result.length
-        × (result.piece.length ≤ piece.length + 4294967296 * length cs.now) }
+    requires { TokensBehind 1 tokens.classes.now tokens.lengths.now × (piece.length ≤ 2 ^ 62) }
+    ensures { PartMeasured (standard_part signs limit piece.length piece.starred tokens.entry.classes.now tokens.entry.lengths.now)
+        (standard_from signs limit result.piece.length result.piece.starred) (47 * length tokens.entry.classes.now) result.length
+        × (result.piece.length ≤ piece.length + 4294967296 * length tokens.entry.classes.now) }
 {
     let mut open = piece;
     let mut total: usize = 0;
-    let mut i: usize = 0;
-    while i < cs.len() {
-        let n = ns[i];
-        let next = i + 1;
-        if cs[i] != 0 {
+    for (i, class) in tokens.classes.iter().enumerate() {
+        let n = tokens.lengths[i];
+        if *class != 0 {
             open.length += n as u64;
         } else if n <= limit {
             open.length += n as u64;
@@ -231,7 +230,6 @@ pub fn standard_part_length(
                 starred: false,
             };
         }
-        i = next;
     }
     StandardMeasured {
         piece: open,

@@ -1,3 +1,4 @@
+pub mod Same
+mod Room
 mod Pass
 mod FewTokens
-pub mod Same

@@ -3,24 +3,35 @@
 
 ghost use Rattle.std.specs.Prelude.{◌+◌, ◌*◌, ◌^◌, ◌≤◌, ◌<◌, ◌≡◌, true};
 ghost use Rattle.text_buffer.specs.Buffer.{Ready};
-ghost use Rattle.stream_outputs.specs.Promises.{Outputs};
-ghost use Rattle.breakdown.specs.Forms.{form_of};
-ghost use Rattle.stream_outputs.specs.Pass.{FirstNo, Shorter, SixTexts, pass_kind, refused_pass, Tokened};
+ghost use Rattle.number.specs.Refusal.{carried};
+ghost use Rattle.rules.specs.Slices.{paired};
+ghost use Rattle.stream_outputs.specs.Promises.{Outputs, stream_outputs_of};
+ghost use Rattle.stream_outputs.specs.Pass.{no_by_places, SixTexts, Tokened};
 
-use crate::short::put_short;
-use breakdown::form::{Form, sn_form, standard_form};
+use crate::short::{FEW_TOKENS, put_short};
+use breakdown::form::form_of;
 use breakdown::length::due_of_measures;
+use breakdown::parts::ActivePart;
 use breakdown::text::text_of_tokens;
-use counts::no_counts;
-use measures::active::active_range;
-use rules::StreamCounts;
+use measures::chart::Chart;
+use number::refusal::Refusal;
+use rules::tokens::Tokens;
+use rules::{BreakdownMode, Kind, StreamBreakdownLevel, StreamCounts};
 use scan::scan;
 use text_buffer::buffer::{Left, put_buffer};
-use text_buffer::words::words;
+use text_buffer::words::WordTable;
 
 mod short;
 
-// What the pass answers: the refusal's number, the counts, the number of tokens and the length of each of the six texts.
+// The counts of a chart, the number of its tokens and the length of each of its six texts.
+#[derive(Clone, Copy, Debug, PartialEq, Eq)]
+pub struct ChartOutputs {
+    pub counts: StreamCounts,
+    pub tokens: usize,
+    pub lengths: [usize; 6],
+}
+
+// What the pass answers in C: the refusal's number, and the same.
 #[repr(C)]
 #[derive(Clone, Copy)]
 pub struct StreamOutputs {
@@ -30,11 +41,28 @@ pub struct StreamOutputs {
     pub lengths: [usize; 6],
 }
 
-// The places of the shorter token slice.
-fn shorter(classes: usize, lengths: usize) -> usize
-    ensures { Shorter classes lengths result }
-{
-    if classes < lengths { classes } else { lengths }
+impl From<Result<ChartOutputs, Refusal>> for StreamOutputs {
+    ghost from_gives = { λ r answer. answer ≡ stream_outputs_of r };
+
+    fn from(r: Result<ChartOutputs, Refusal>) -> StreamOutputs {
+        match r {
+            Ok(outputs) => {
+                let lengths = outputs.lengths;
+                StreamOutputs {
+                    refused: 0,
+                    counts: outputs.counts,
+                    tokens: outputs.tokens,
+                    lengths,
+                }
+            }
+            Err(refusal) => StreamOutputs {
+                refused: refusal.number(),
+                counts: StreamCounts::default(),
+                tokens: 0,
+                lengths: [0; 6],
+            },
+        }
+    }
 }
 
 // Is there room for all that a chart of n measures can need?
@@ -42,32 +70,26 @@ fn surely_fit(n: usize, places: usize, room: usize) -> bool
     requires { n ≤ 1048576 }
     ensures { result ≡ true → (n ≤ places) × (17 * n + 33 ≤ room) }
 {
-    if n > places {
-        return false;
-    }
-    17 * n + 33 <= room
+    n <= places && 17 * n + 33 <= room
 }
 
-// Questions 1, 2 and 4: the number of the first whose answer is no, or 0. What is due is counted only where a slice could be too short.
-fn first_no(m: &[u32], classes: usize, lengths: usize, room: usize) -> u32
-    ensures { FirstNo m.now classes lengths room result }
+// Questions 2 and 4. What is due is counted only where a slice could be too short.
+fn ask_room(chart: Chart, classes: usize, lengths: usize, room: usize) -> Result<(), Refusal>
+    ensures { carried result ≡ no_by_places chart.entry.measures.now classes lengths room }
 {
-    if m.len() > 1048576 {
-        return 1;
+    let places = classes.min(lengths);
+    if surely_fit(chart.measures.len(), places, room) {
+        return Ok(());
     }
-    let places = shorter(classes, lengths);
-    if surely_fit(m.len(), places, room) {
-        return 0;
-    }
-    let due = due_of_measures(active_range(m));
+    let due = due_of_measures(ActivePart::new(chart));
     if due.tokens > places {
-        return 2;
+        return Err(Refusal::TooFewTokens);
     }
-    let l = due.lengths;
-    if l[0] + l[1] + l[2] + l[3] + l[4] + l[5] > room {
-        return 4;
+    let bytes: usize = due.lengths.iter().sum();
+    if bytes > room {
+        return Err(Refusal::TextTooShort);
     }
-    0
+    Ok(())
 }
 
 // How many bytes were added between two places.
@@ -78,69 +100,48 @@ fn between(from: Left, to: Left) -> usize
     to.place + to.left - (from.place + from.left)
 }
 
-// The form of text i of the pass.
-fn pass_form(i: usize) -> Form
-    requires { i < 6 }
-    ensures { result ≡ form_of (pass_kind i) }
-{
-    match i {
-        0 => sn_form(0),
-        1 => sn_form(1),
-        2 => sn_form(4),
-        3 => standard_form(0, false),
-        4 => standard_form(0, true),
-        _ => standard_form(1, true),
-    }
-}
-
-// The six texts end to end, by way of an empty buffer, from the tokens of `m`; the length of each is answered.
+// The six texts of some tokens end to end, by way of an empty buffer; the length of each is answered.
 fn put_six(
-    m: &[u32],
-    cs: &[u8],
-    ns: &[u32],
+    tokens: Tokens,
     dense: bool,
-    words: &[u32; 192],
+    words: &WordTable,
     buf: &mut [u8],
     out: &mut [u8],
 ) -> [usize; 6]
-    requires { Tokened m.now cs.now ns.now out.old × Ready buf.old 0 words.now }
-    ensures { SixTexts m.now out.old out.new result }
+    requires { Tokened tokens.classes.now tokens.lengths.now out.old × Ready buf.old 0 }
+    ensures { SixTexts (paired tokens.entry.classes.now tokens.entry.lengths.now) out.old out.new result }
 {
-    let mut lengths = [0usize; 6];
+    let kinds = [
+        Kind::Sn(BreakdownMode::Detailed),
+        Kind::Sn(BreakdownMode::Partial),
+        Kind::Sn(BreakdownMode::Simplified),
+        Kind::Standard(StreamBreakdownLevel::Detailed),
+        Kind::Standard(StreamBreakdownLevel::Partial),
+        Kind::Standard(StreamBreakdownLevel::Simple),
+    ];
+    let mut lengths = [0; 6];
     let mut to = Left { place: 0, left: 0 };
-    let mut i: usize = 0;
-    while i < 6 {
-        let next = text_of_tokens(cs, ns, pass_form(i), dense, words, buf, out, to);
+    for (i, kind) in kinds.iter().enumerate() {
+        let next = text_of_tokens(tokens, form_of(*kind), dense, words, buf, out, to);
         lengths[i] = between(to, next);
         to = next;
-        i += 1;
     }
     put_buffer(out, to.place, buf, to.left);
     lengths
 }
 
-// The six texts by way of a table of words and a buffer of its own or, of few tokens, three at a time.
-fn put_texts(m: &[u32], classes: &[u8], lengths: &[u32], dense: bool, out: &mut [u8]) -> [usize; 6]
-    requires { Tokened m.now classes.now lengths.now out.old }
-    ensures { SixTexts m.now out.old out.new result }
+// The same by way of a table of words and a buffer of its own or, of few tokens, three at a time.
+fn put_texts(tokens: Tokens, dense: bool, out: &mut [u8]) -> [usize; 6]
+    requires { Tokened tokens.classes.now tokens.lengths.now out.old }
+    ensures { SixTexts (paired tokens.entry.classes.now tokens.entry.lengths.now) out.old out.new result }
 {
-    let words = words();
-    if classes.len() != 0 && classes.len() <= 88 {
-        return put_short(m, classes, lengths, &words, out);
+    let words = WordTable::new();
+    let few = tokens.len();
+    if few != 0 && few <= FEW_TOKENS {
+        return put_short(tokens, &words, out);
     }
-    let mut buf = [0u8; 2048];
-    put_six(m, classes, lengths, dense, &words, &mut buf, out)
-}
-
-fn refused(number: u32) -> StreamOutputs
-    ensures { result ≡ refused_pass number }
-{
-    StreamOutputs {
-        refused: number,
-        counts: no_counts(),
-        tokens: 0,
-        lengths: [0; 6],
-    }
+    let mut buf = [0; 2048];
+    put_six(tokens, dense, &words, &mut buf, out)
 }
 
 // Questions 1, 2, 4, all asked before anything is written. `dense`: many short tokens with breaks among them, which the processor cannot
@@ -150,24 +151,25 @@ pub fn compute_stream_outputs(
     classes: &mut [u8],
     lengths: &mut [u32],
     out: &mut [u8],
-) -> StreamOutputs
+) -> Result<ChartOutputs, Refusal>
     ensures { Outputs m.now classes.old classes.new
-        lengths.old lengths.new out.old out.new result }
+        lengths.old lengths.new out.old out.new (stream_outputs_of result) }
 {
-    let no = first_no(m, classes.len(), lengths.len(), out.len());
-    if no != 0 {
-        return refused(no);
-    }
+    let chart = Chart::new(m)?;
+    ask_room(chart, classes.len(), lengths.len(), out.len())?;
     let scanned = scan(m, classes, lengths);
     let counts = scanned.counts;
-    let tokens = scanned.tokens;
+    let count = scanned.tokens;
     let breaks = counts.total_breaks as usize;
-    let dense = (tokens > 8192) & (tokens > m.len() / 2) & (breaks > m.len() / 8);
-    let texts = put_texts(m, &classes[..tokens], &lengths[..tokens], dense, out);
-    StreamOutputs {
-        refused: 0,
+    let dense = (count > 8192) & (count > m.len() / 2) & (breaks > m.len() / 8);
+    let tokens = Tokens {
+        classes: &classes[..count],
+        lengths: &lengths[..count],
+    };
+    let lengths = put_texts(tokens, dense, out);
+    Ok(ChartOutputs {
         counts,
-        tokens,
-        lengths: texts,
-    }
+        tokens: count,
+        lengths,
+    })
 }

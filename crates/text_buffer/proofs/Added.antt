@@ -39,8 +39,8 @@ module _ {old out : List ℕ} {from : Left} (xs : List ℕ) {buf mid : List ℕ}
   pub added_out : length mid ≡ length out
   added_out = wrote-length a.front [] a.wrote
 
-  pub added-ready : {l : ℕ} {table : List ℕ} → Ready old l table → Ready buf to.left table
-  added-ready h = record { long = rw a.long h.long; few = a.few; words = h.words }
+  pub added-ready : {l : ℕ} → Ready old l → Ready buf to.left
+  added-ready h = record { long = rw a.long h.long; few = a.few }
 
   -- how far the text goes
   pub added_next : from.left ≤ length old → to.left ≤ length buf → to.place + to.left ≡ from.place + from.left + length xs
@@ -106,7 +106,7 @@ module _ {old out : List ℕ} {from : Left} {whole rest buf new : List ℕ} {to 
   pub room : Room out from.place (take from.left old ++ whole) → Room new to.place (take to.left buf ++ rest)
   room h = added-room g.done g.sofar rest (rw g.text at h)
 
-  pub ready : {l : ℕ} {table : List ℕ} → Ready old l table → Ready buf to.left table
+  pub ready : {l : ℕ} → Ready old l → Ready buf to.left
   ready h = added-ready g.done g.sofar h
 
   pub on : (chunk last : List ℕ) {buf' new' : List ℕ} {to' : Left} → rest ≡ chunk ++ last → Added buf new to chunk buf' new' to'

@@ -1,9 +1,9 @@
 -- Single bytes and short texts, by cases on their numbers.
 -- Assumes nothing.
 use Prim.Native.Nat.{ℕ, zero, suc, ◌^◌, ◌≤◌, ◌<◌}
-use mathlib.Core.Path.{◌≡◌, refl, sym}
+use mathlib.Core.Path.{◌≡◌, sym}
 use mathlib.Core.Bool.{Bool, true, false}
-use mathlib.Core.List.{[], ◌++◌, append_assoc}
+use mathlib.Core.List.{◌++◌, append_assoc}
 use native.Mathlib.Omega.{arith}
 use lib.Dec.{leb}
 use lib.ListN.{length, length-append}
@@ -21,11 +21,6 @@ pub byte-short : (b : ℕ) → length (byte_text b) ≤ 1
 byte-short zero = omega arith
 byte-short (suc b) = omega arith
 
-pub mark-none : (c : ℕ) → c < 2 → mark c ≡ []
-mark-none zero h = refl
-mark-none (suc zero) h = refl
-mark-none (suc (suc c)) h = absurd (omega arith)
-
 pub mark-short : (c : ℕ) → length (mark c) ≤ 1
 mark-short zero = omega arith
 mark-short (suc zero) = omega arith
@@ -33,23 +28,9 @@ mark-short (suc (suc zero)) = omega arith
 mark-short (suc (suc (suc zero))) = omega arith
 mark-short (suc (suc (suc (suc c)))) = omega arith
 
-pub mark-one : (c : ℕ) → 2 ≤ c → length (mark c) ≡ 1
-mark-one zero h = absurd (omega arith)
-mark-one (suc zero) h = absurd (omega arith)
-mark-one (suc (suc zero)) h = refl
-mark-one (suc (suc (suc zero))) h = refl
-mark-one (suc (suc (suc (suc c)))) h = refl
-
 pub side-short : (b c : ℕ) → length (side b c) ≤ 1
 side-short b zero = byte-short b
 side-short b (suc c) = mark-short (suc c)
-
-pub side-high : (b c : ℕ) → 4 ≤ c → side b c ≡ bytes "="
-side-high b zero h = absurd (omega arith)
-side-high b (suc zero) h = absurd (omega arith)
-side-high b (suc (suc zero)) h = absurd (omega arith)
-side-high b (suc (suc (suc zero))) h = absurd (omega arith)
-side-high b (suc (suc (suc (suc c)))) h = refl
 
 pub star-short : (s : Bool) → length (star s) ≤ 1
 star-short true = omega arith

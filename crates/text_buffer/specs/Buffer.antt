@@ -2,14 +2,12 @@
 -- Assumes nothing.
 use Rattle.std.specs.Prelude.{ℕ, ◌≤◌, ◌≡◌, List, ◌++◌, length, take}
 use Rattle.number.specs.Place.{Wrote}
-use Rattle.text_buffer.specs.Words.{Words}
 use Rattle.text_buffer.specs.declared.buffer.Left.{Left}
 
--- a buffer with room for one more group or piece, and the table of words
-pub record Ready (buf : List ℕ) (left : ℕ) (table : List ℕ) : Type 0 where
+-- a buffer with room for one more group or piece
+pub record Ready (buf : List ℕ) (left : ℕ) : Type 0 where
   pub long : 2048 ≤ length buf
   pub few : left ≤ 1984
-  pub words : Words table
 
 -- where a text goes on: a place of the slice, and so many bytes in the buffer
 abbrev pub goes_on : ℕ → ℕ → Left

@@ -1,5 +1,6 @@
--- Tokens in two slices, and what a function promises that writes or measures a text part by part: the text of a run or piece that is still open, of the
--- tokens of one part behind it, and of whatever follows, is what is done, and then the text of the one that is open now and of what follows.
+-- Tokens in two slices (that they are equally long is said by the type that holds both: `Tokens` of crate rules), and what a function promises that
+-- writes or measures a text part by part: the text of a run or piece that is still open, of the tokens of one part behind it, and of whatever follows, is
+-- what is done, and then the text of the one that is open now and of what follows.
 -- Assumes nothing.
 use Rattle.std.specs.Prelude.{ℕ, ◌+◌, ◌≤◌, ◌≡◌, ◌≢◌, List, ◌++◌, length, take}
 use Rattle.number.specs.Place.{Room}
@@ -11,13 +12,11 @@ use Rattle.text_buffer.specs.declared.buffer.Left.{Left}
 
 -- the tokens of a chart of the domain
 pub record Tokens (cs ns : List ℕ) : Type 0 where
-  pub long : length cs ≡ length ns
   pub few : length cs ≤ 1048576
   pub alternates : Alternates (paired cs ns)
 
 -- tokens behind one of class c; the last is a run, if there are any
 pub record TokensBehind (c : ℕ) (cs ns : List ℕ) : Type 0 where
-  pub long : length cs ≡ length ns
   pub few : length cs ≤ 1048576
   pub run : c ≢ 0
   pub behind : MayFollow c (paired cs ns)

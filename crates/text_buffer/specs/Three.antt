@@ -5,15 +5,13 @@ use Rattle.number.specs.Place.{Room}
 use Rattle.rules.specs.Slices.{paired, total}
 use Rattle.number.specs.Grown.{Grown}
 use Rattle.text_buffer.specs.Parts.{TokensBehind}
-use Rattle.text_buffer.specs.Words.{Words}
 use Rattle.text_buffer.specs.declared.three.Three.{Three}
 
--- the tokens of a chart of the domain behind its first run, of class c and n measures, the table, and three buffers with room for any of its texts:
+-- the tokens of a chart of the domain behind its first run, of class c and n measures, and three buffers with room for any of its texts:
 -- a token takes at most 11 bytes, and 52 are stored at once
-pub record ThreeAsked (c n : ℕ) (cs ns table a b d : List ℕ) : Type 0 where
+pub record ThreeAsked (c n : ℕ) (cs ns a b d : List ℕ) : Type 0 where
   pub tokens : TokensBehind c cs ns
   pub few : n + total (paired cs ns) ≤ 1048576
-  pub words : Words table
   pub room_first : 11 * length cs + 52 ≤ length a
   pub room_second : 11 * length cs + 52 ≤ length b
   pub room_third : 11 * length cs + 52 ≤ length d

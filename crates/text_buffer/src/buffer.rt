@@ -32,12 +32,15 @@ pub struct Left {
     pub left: usize,
 }
 
-// The buffer is written once there may be no room in it for one more group or piece.
+// With more bytes than these in a buffer of 2048 there may be no room for one more group or piece.
+const NEARLY_FULL: usize = 1984;
+
+// The buffer is written once it is nearly full.
 pub fn flush(buf: &[u8], out: &mut [u8], place: usize, left: usize) -> Left
     requires { (left ≤ length buf.now) × Room out.old place (take left buf.now) }
     ensures { Added buf.now out.old (goes_on place left) [] buf.now out.new result }
 {
-    if left > 1984 {
+    if left > NEARLY_FULL {
         return Left {
             place: put_buffer(out, place, buf, left),
             left: 0,

@@ -1,27 +1,14 @@
 // Bytes at a place of a longer text; the next place is answered.
-ghost use Rattle.std.specs.Prelude.{[], ◌∷◌};
 ghost use Rattle.number.specs.Place.{Room, Wrote};
 ghost use Rattle.rules.specs.Bytes.{bytes};
-
-fn put_one(out: &mut [u8], at: usize, b: u8) -> usize
-    requires { Room out.old at (b ∷ []) }
-    ensures { Wrote out.old out.new at (b ∷ []) result }
-{
-    out[at] = b;
-    at + 1
-}
 
 pub fn put_bytes(out: &mut [u8], at: usize, text: &[u8]) -> usize
     requires { Room out.old at text.now }
     ensures { Wrote out.old out.new at text.now result }
 {
-    let mut place = at;
-    let mut i: usize = 0;
-    while i < text.len() {
-        place = put_one(out, place, text[i]);
-        i += 1;
-    }
-    place
+    let next = at + text.len();
+    out[at..next].copy_from_slice(text);
+    next
 }
 
 // What a standard text shows where there is no stream measure.

@@ -5,11 +5,10 @@ ghost use Rattle.rules.specs.Bytes.{bytes};
 ghost use Rattle.rules.specs.Texts.{star};
 ghost use Rattle.number.specs.Grown.{Grown};
 ghost use Rattle.text_buffer.specs.Measured.{Measured};
-ghost use Rattle.text_buffer.specs.Words.{Words};
 ghost use Rattle.text_buffer.specs.Runs.{run_text};
 
 use crate::buffer::{Left, put_buffer};
-use crate::words::{class_word, end_word};
+use crate::words::WordTable;
 use number::buffer::{add_u64, add_word};
 use number::digit_count;
 
@@ -56,26 +55,26 @@ pub fn add_star(buf: &mut [u8], k: usize, starred: bool) -> usize
 }
 
 // A run and a space, in the buffer.
-pub fn add_ended(buf: &mut [u8], k: usize, run: Run, words: &[u32; 192]) -> usize
-    requires { (k + 26 ≤ length buf.old) × Words words.now × (run.class ≤ 4) }
+pub fn add_ended(buf: &mut [u8], k: usize, run: Run, words: &WordTable) -> usize
+    requires { (k + 26 ≤ length buf.old) × (run.class ≤ 4) }
     ensures { Grown buf.old buf.new k (run_text run ++ bytes " ") result }
 {
-    let a = add_word(buf, k, class_word(words, 100, run.class));
-    let b = add_u64(buf, a, run.length, words);
-    add_word(buf, b, end_word(words, run.class, run.starred))
+    let a = add_word(buf, k, words.mark_word(run.class));
+    let b = add_u64(buf, a, run.length, &words.table);
+    add_word(buf, b, words.end_word(run.class, run.starred))
 }
 
 // A run alone, in the buffer.
-pub fn add_run(buf: &mut [u8], k: usize, run: Run, words: &[u32; 192]) -> usize
-    requires { (k + 26 ≤ length buf.old) × Words words.now × (run.class ≤ 4) }
+pub fn add_run(buf: &mut [u8], k: usize, run: Run, words: &WordTable) -> usize
+    requires { (k + 26 ≤ length buf.old) × (run.class ≤ 4) }
     ensures { Grown buf.old buf.new k (run_text run) result }
 {
     add_ended(buf, k, run, words) - 1
 }
 
 // A run at a place of the lent slice.
-pub fn put_run(out: &mut [u8], at: usize, buf: &mut [u8], run: Run, words: &[u32; 192]) -> usize
-    requires { (26 ≤ length buf.old) × Words words.now × (run.class ≤ 4) × Room out.old at (run_text run) }
+pub fn put_run(out: &mut [u8], at: usize, buf: &mut [u8], run: Run, words: &WordTable) -> usize
+    requires { (26 ≤ length buf.old) × (run.class ≤ 4) × Room out.old at (run_text run) }
     ensures { Wrote out.old out.new at (run_text run) result }
 {
     let k = add_run(buf, 0, run, words);

@@ -1,2 +1,3 @@
 pub mod Views
+pub mod Tokens
 pub mod Same

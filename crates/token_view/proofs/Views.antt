@@ -1,37 +1,21 @@
 -- What a view holds, opened and after any number of steps. Nothing here speaks of code.
 -- Assumes nothing.
-use Prim.Native.Nat.{ℕ, zero, suc, ◌-◌, ◌≤◌}
-use mathlib.Core.Path.{◌≡◌, refl, sym, ap, ◌∙◌}
-use mathlib.Core.Bool.{true}
-use mathlib.Core.List.{List, [], ◌∷◌}
-use native.Mathlib.Omega.{arith}
-use lib.Dec.{leb, eqb}
-use lib.ListN.{length, take, drop, length-drop, length-map, drop_of_length-le}
-use lib.Seq.{take_all, drop-length}
+use Rattle.std.proofs.Common.{◌≡◌, ℕ, zero, suc, ◌≤◌, true, List, [], ◌∷◌, length, refl, sym, ap, ◌∙◌, arith, length-drop}
+use lib.Dec.{leb}
 use borrow.Author.Tests.{leb-true}
 use Rattle.number.specs.Questions.{first_no}
 use Rattle.number.proofs.Split.{split}
-use Rattle.rules.specs.Chart.{in_domain, class_of, classes, runs_from, runs}
+use Rattle.rules.specs.Chart.{in_domain, class_of, classes}
 use Rattle.rules.specs.Calls.{step_at, after_step, after_steps, admitted}
 use Rattle.rules.specs.declared.ViewToken.{ViewToken}
 use Rattle.rules.proofs.Domain.{within}
-use Rattle.rules.proofs.View.{steps-follow}
-use Rattle.token_view.specs.Promises.{Opening, Step, no_token, nth_answer}
-
--- what `&m[n..]` holds
-pub part-from : (n : ℕ) (m : List ℕ) → take (length m - n) (drop n m) ≡ drop n m
-part-from n m = take_all (length m - n) (drop n m) (omega (arith, length-drop n m))
-
-pub part-empty : (n : ℕ) (m : List ℕ) → length m ≤ n → take (length m - length m) (drop (length m) m) ≡ drop n m
-part-empty n m h = part-from (length m) m ∙ drop-length m ∙ sym (drop_of_length-le m h)
+use Rattle.rules.proofs.View.{first_run, steps-follow, run_fits}
+use Rattle.token_view.specs.Promises.{Opening, Step}
 
 module _ (m : List ℕ) where
-  -- accepted measures are kept whole, of refused ones none is left
+  -- accepted measures are kept whole
   pub kept : first_no (in_domain m ∷ []) ≡ 0 → m ≡ admitted m
   kept e = rw e
-
-  pub none_kept : (first_no (in_domain m ∷ []) ≡ 0 → ⊥) → [] ≡ admitted m
-  none_kept other = split (leb (length m) 1048576) (λ e. absurd (other (rw e))) (λ e. rw e)
 
   pub few : length (admitted m) ≤ 1048576
   few = split (leb (length m) 1048576) (λ e. rw e (leb-true _ _ e)) (λ e. rw e (omega arith))
@@ -41,33 +25,11 @@ pub past_end : {said : ViewToken} {next : List ℕ} → Step [] said next → (s
 unfolding step_at
 past_end s = (s.token, s.left)
 
-runs-few : (c n : ℕ) (cs : List ℕ) → length (runs_from c n cs) ≤ suc (length cs)
-runs-few c n [] = omega arith
-runs-few c n (d ∷ cs) = split (eqb c d) (λ e. rw e (omega (arith, runs-few c (suc n) cs))) (λ e. rw e (omega (arith, runs-few d 1 cs)))
-
-tokens-few : (m : List ℕ) → length (runs (classes m)) ≤ length m
-tokens-few [] = omega arith
-tokens-few (d ∷ m) = omega (arith, runs-few (class_of d) 1 (classes m), length-map m class_of)
-
--- there are no more tokens than measures, so after as many steps every step says ended
-ended-after : (k : ℕ) (m : List ℕ) → length m ≤ k → step_at k m ≡ record { ended = true; class = 0; length = 0 }
+-- no token is longer than the measures
+pub step-fits : (m : List ℕ) → (step_at 0 m).length ≤ length m
 unfolding step_at
-ended-after k m h =
-    let few-enough : length (runs (classes m)) ≤ k = omega (arith, tokens-few m) in
-    rw (drop_of_length-le (runs (classes m)) few-enough)
-
-pub ended-alike : (k : ℕ) (m : List ℕ) → length m ≤ k → step_at (length m) m ≡ step_at k m
-ended-alike k m h = ended-after (length m) m (omega arith) ∙ sym (ended-after k m h)
-
--- nth_token's answer, by the first no
-module _ (k : ℕ) (m : List ℕ) where
-  pub nth-refused : (q : ℕ) → q ≡ first_no (in_domain m ∷ []) → (q ≡ 0 → ⊥) → record { refused = q; token = no_token } ≡ nth_answer k m
-  nth-refused zero e other = absurd (other refl)
-  nth-refused (suc q) e other = rw (← e)
-
-  pub nth-accepted : (q : ℕ) (said : ViewToken) → q ≡ first_no (in_domain m ∷ []) → q ≡ 0 → said ≡ step_at k m
-      → record { refused = q; token = said } ≡ nth_answer k m
-  nth-accepted q said e z t = rw (← e, z, t)
+step-fits [] = omega arith
+step-fits (d ∷ m) = rw (first_run (class_of d) 1 (classes m)) (omega (arith, run_fits m 0 (class_of d) (omega arith)))
 
 -- one step more
 pub step-more : (k : ℕ) (m : List ℕ) → after_step (after_steps k m) ≡ after_steps (suc k) m

@@ -1,6 +1,8 @@
 -- Steps of the token view, one after the other.
 -- Assumes nothing.
-use Rattle.std.specs.Prelude.{ℕ, suc, ◌<◌, List}
+use Rattle.std.specs.Prelude.{ℕ, suc, ◌<◌, List, [], ◌∷◌, map}
+use Rattle.rules.specs.Chart.{classes, runs}
+use Rattle.rules.specs.Calls.{said, admitted}
 use Rattle.rules.specs.declared.ViewToken.{ViewToken}
 use Rattle.token_view.specs.Promises.{Opening, Step}
 
@@ -9,3 +11,7 @@ use Rattle.token_view.specs.Promises.{Opening, Step}
 pub record Stepped (m : List ℕ) (n refused : ℕ) (v : ℕ → List ℕ) (t : ℕ → ViewToken) : Type 0 where
   pub opens : Opening m refused (v 0)
   pub steps : (k : ℕ) → k < n → Step (v k) (t k) (v (suc k))
+
+-- what the steps of a view say before they say ended, in order
+unfoldable pub view_tokens : List ℕ → List ViewToken
+view_tokens m = map (λ t. said (t ∷ [])) (runs (classes (admitted m)))

@@ -1,26 +1,22 @@
 // Token view: a struct that holds the lent measures and steps to the next token, breaks at both ends included.
 #![tactic(auto)]
 
-ghost use Rattle.std.specs.Prelude.{◌≡◌, [], ◌∷◌, drop};
-ghost use Rattle.number.specs.Questions.{first_no};
-ghost use Rattle.rules.specs.Chart.{in_domain};
-ghost use Rattle.rules.specs.Calls.{step_at, admitted};
-ghost use Rattle.token_view.specs.Promises.{Opening, Step, nth_answer};
+ghost use Rattle.std.specs.Prelude.{◌≡◌, [], ◌∷◌};
+ghost use Rattle.std.specs.Iterator.{YieldsFirst, item_count};
+ghost use Rattle.number.specs.Refusal.{carried};
+ghost use Rattle.rules.specs.Calls.{admitted};
+ghost use Rattle.token_view.specs.Promises.{Opening, Step, view_of, nth_answer, nth_token_of};
+ghost use Rattle.token_view.specs.Steps.{view_tokens};
 
+use measures::chart::Chart;
 use measures::tokens::token_at;
+use number::refusal::Refusal;
 use rules::ViewToken;
 
-// What is left to step through.
+// What is left to step through. It can be copied, so that a caller may step from one place twice.
 #[derive(Clone, Copy)]
 pub struct TokenView<'a> {
     pub measures: &'a [u32],
-}
-
-// The number of the first no, or 0, and the view at the chart's start.
-#[derive(Clone, Copy)]
-pub struct Opened<'a> {
-    pub refused: u32,
-    pub view: TokenView<'a>,
 }
 
 // What a step says, and the view that it leaves.
@@ -30,7 +26,7 @@ pub struct TokenStep<'a> {
     pub next: TokenView<'a>,
 }
 
-// The number of the first no, or 0, and what a step says.
+// An answer of nth_token as C gets it: the refusal's number, or 0, and what the step says.
 #[repr(C)]
 #[derive(Clone, Copy)]
 pub struct NthToken {
@@ -38,106 +34,82 @@ pub struct NthToken {
     pub token: ViewToken,
 }
 
-// Question 1.
-fn refusal(m: &[u32]) -> u32
-    ensures { result ≡ first_no (in_domain m.now ∷ []) }
-{
-    if m.len() <= 1048576 { 0 } else { 1 }
+impl From<Result<ViewToken, Refusal>> for NthToken {
+    ghost from_gives = { λ r a. a ≡ nth_token_of r };
+
+    fn from(answer: Result<ViewToken, Refusal>) -> NthToken {
+        match answer {
+            Ok(token) => NthToken { refused: 0, token },
+            Err(refusal) => NthToken {
+                refused: refusal.number(),
+                token: ViewToken {
+                    ended: false,
+                    class: 0,
+                    length: 0,
+                },
+            },
+        }
+    }
 }
 
-// The measures, or the empty part at their end where they are refused.
+// The measures, or none where they are refused.
 fn admit(m: &[u32]) -> &[u32]
     ensures { result.now ≡ admitted m.now }
 {
-    if refusal(m) == 0 { m } else { &m[m.len()..] }
-}
-
-// The token at the front.
-fn first_token(m: &[u32]) -> ViewToken
-    ensures { result ≡ step_at 0 (admitted m.now) }
-{
-    token_at(m, 0)
-}
-
-// What follows the first n measures.
-fn rest_after(m: &[u32], n: u32) -> &[u32]
-    ensures { result.now ≡ drop n (admitted m.now) }
-{
-    let left = admit(m);
-    let at = n as usize;
-    if at <= left.len() {
-        &left[at..]
-    } else {
-        &left[left.len()..]
+    match Chart::new(m) {
+        Ok(chart) => chart.measures,
+        Err(_) => &[],
     }
 }
 
 // Opens a view of a chart, by question 1.
-pub fn stream_tokens<'a>(measures: &'a [u32]) -> Opened<'a>
-    ensures { Opening measures.now result.refused result.view.measures.now }
+pub fn stream_tokens(measures: &[u32]) -> Result<TokenView<'_>, Refusal>
+    ensures { Opening measures.now (carried result) (view_of result) }
 {
-    let refused = refusal(measures);
-    let left = admit(measures);
-    Opened {
-        refused,
-        view: TokenView { measures: left },
-    }
+    let measures = Chart::new(measures)?.measures;
+    Ok(TokenView { measures })
 }
 
 // One step of the view.
-pub fn next_token<'a>(view: TokenView<'a>) -> TokenStep<'a>
+pub fn next_token(view: TokenView<'_>) -> TokenStep<'_>
     ensures { Step view.entry.measures.now result.token result.next.measures.now }
 {
-    let token = first_token(view.measures);
-    let left = rest_after(view.measures, token.length);
+    let token = token_at(view.measures, 0);
+    let left = admit(view.measures);
+    let measures = &left[token.length as usize..];
     TokenStep {
         token,
-        next: TokenView { measures: left },
+        next: TokenView { measures },
     }
 }
 
-// What the step after k steps says, each from the view that the step before left.
-fn token_after(measures: &[u32], k: usize) -> ViewToken
-    ensures { result ≡ step_at k (admitted measures.now) }
-{
-    let opened = stream_tokens(measures);
-    let mut view = opened.view;
-    let mut i = 0;
-    while i < k {
-        view = next_token(view).next;
-        i += 1;
-    }
-    next_token(view).token
-}
+// The view's tokens, one by one.
+impl Iterator for TokenView<'_> {
+    type Item = ViewToken;
 
-// The number of steps to the step number k: a chart has no more tokens than measures, so after as many it takes no more.
-fn steps_to(measures: &[u32], k: usize) -> usize
-    ensures { step_at result measures.now ≡ step_at k measures.now }
-{
-    if k < measures.len() {
-        k
-    } else {
-        measures.len()
+    ghost next_gives = { YieldsFirst (λ v. view_tokens v.measures.now) };
+
+    ghost remaining = { item_count (λ v. view_tokens v.measures.now) };
+
+    fn next(&mut self) -> Option<ViewToken> {
+        let TokenStep { token, next } = next_token(*self);
+        *self = next;
+        if token.ended {
+            return None;
+        }
+        Some(token)
     }
 }
 
-// Step number k, counted from 0: refused with 1 outside the domain, and then not ended.
-pub fn nth_token(measures: &[u32], k: usize) -> NthToken
-    ensures { result ≡ nth_answer k measures.now }
+// Step number k, counted from 0: refused with 1 outside the domain.
+pub fn nth_token(measures: &[u32], k: usize) -> Result<ViewToken, Refusal>
+    ensures { nth_token_of result ≡ nth_answer k measures.now }
 {
-    let refused = refusal(measures);
-    if refused != 0 {
-        return NthToken {
-            refused,
-            token: ViewToken {
-                ended: false,
-                class: 0,
-                length: 0,
-            },
-        };
-    }
-    NthToken {
-        refused,
-        token: token_after(measures, steps_to(measures, k)),
-    }
+    let end = ViewToken {
+        ended: true,
+        class: 0,
+        length: 0,
+    };
+    let mut view = stream_tokens(measures)?;
+    Ok(view.nth(k).unwrap_or(end))
 }

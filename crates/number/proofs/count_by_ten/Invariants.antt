@@ -8,6 +8,3 @@ use Rattle.number.proofs.count_by_ten.Given as goal
 
 abbrev pub invariant-loop-k : goal.invariant-loop-k
 invariant-loop-k l = (l.k + length (digits l.rest) ≡ length (digits l.n) + 1) × (length (digits l.n) ≤ 20)
-
-abbrev pub decreases-loop-k : goal.decreases-loop-k
-decreases-loop-k l = l.rest

@@ -1,15 +1,20 @@
 -- `number::put_u64` meets its contract.
 -- Assumes nothing.
-use native.Mathlib.Omega.{arith}
-use Rattle.number.proofs.Push.{width-yes}
-use Rattle.number.proofs.Place.{part_length, part-wrote}
+use Rattle.std.proofs.Common.{arith}
+use Rattle.number.proofs.Padded.{padded-parts, padded-length}
+use Rattle.number.proofs.Place.{part_room, part-put}
 use Rattle.number.proofs.put_u64.Goals as goal
 
-pub overflow_add-result : goal.overflow_add-result
-overflow_add-result c =
-    let p = rw (width-yes c.args.width _ c.requires.0) at c.push_padded-written.ensures in
-    omega (arith, c.requires.1.fits, part_length _ c.args.out.now _ c.args.at c.requires.1 _ p)
+pub put_padded-requires : goal.put_padded-requires
+put_padded-requires c =
+    let a = c.args in
+    let count = c.count_by_fours-count.ensures.number in
+    let parts = padded-parts a.width a.n count c.saturating_sub-spaces.ensures in
+    (count, record { fits = omega (arith, rw parts at (part_room _ _ a.out.now a.at c.requires.1)) })
 
 pub returns : goal.returns
 returns c =
-    part-wrote _ _ _ _ c.requires.1 _ (rw (width-yes c.args.width _ c.requires.0) at c.push_padded-written.ensures)
+    let a = c.args in
+    let count = c.count_by_fours-count.ensures.number in
+    let parts = padded-parts a.width a.n count c.saturating_sub-spaces.ensures in
+    part-put _ _ _ _ c.requires.1 parts (omega (arith, padded-length a.width a.n)) c.put_padded.ensures

@@ -1,6 +1,5 @@
 -- `scan::bounds_of` meets its contract: one law for each class.
 -- Assumes nothing.
-use Rattle.scan.proofs.Classes.{fourth}
 use Rattle.rules.proofs.Steps.{class-0, class-1, class-2, class-3, class-4}
 use native.Mathlib.Omega.{arith}
 use Rattle.scan.proofs.bounds_of.Goals as goal
@@ -19,6 +18,3 @@ returns-in-3 c = rw c.in-3.is (record { fit = omega arith; same = λ d g h. clas
 
 pub returns-in-4 : goal.returns-in-4
 returns-in-4 c = rw c.in-4.is (record { fit = omega arith; same = λ d g h. class-4 d (omega arith) })
-
-pub returns-in_default : goal.returns-in_default
-returns-in_default c = let n = c.in_default.in_default-own.rest in absurd (n.1 (fourth _ c.requires n.0.0.0.0.1 n.0.0.0.1 n.0.0.1 n.0.1))

@@ -1,12 +1,11 @@
 -- `scan::scan` meets its contract.
 -- Assumes nothing.
-use mathlib.Core.Path.{refl, sym, ap, ◌∙◌}
+use mathlib.Core.Path.{refl, ap, ◌∙◌}
 use mathlib.Core.Logic.{inl}
 use native.Mathlib.Omega.{arith}
-use lib.Seq.{length-take-le}
 use Rattle.counts.specs.Sums.{sums_of}
 use Rattle.measures.proofs.Part.{part-within, part-runs}
-use Rattle.scan.proofs.Written.{within_c, within_n, back, pairs}
+use Rattle.scan.proofs.Written.{back, pairs}
 use Rattle.scan.proofs.scan.Goals as goal
 
 pub runs_into-taken-requires : goal.runs_into-taken-requires
@@ -18,22 +17,10 @@ runs_into-taken-requires c =
       room_n = inl (rw ts c.requires.room_n);
     }
 
-pub slice_bounds-add_up-end : goal.slice_bounds-add_up-end
-slice_bounds-add_up-end c = within_c (c.runs_into-taken.ensures.all (omega arith))
-
-pub slice_bounds-add_up-end-2 : goal.slice_bounds-add_up-end-2
-slice_bounds-add_up-end-2 c = sym (length-take-le _ _ (within_c (c.runs_into-taken.ensures.all (omega arith))))
-
-pub slice_bounds-add_up-end-3 : goal.slice_bounds-add_up-end-3
-slice_bounds-add_up-end-3 c = within_n (c.runs_into-taken.ensures.all (omega arith))
-
-pub slice_bounds-add_up-end-4 : goal.slice_bounds-add_up-end-4
-slice_bounds-add_up-end-4 c = sym (length-take-le _ _ (within_n (c.runs_into-taken.ensures.all (omega arith))))
-
 pub add_up-sums-requires : goal.add_up-sums-requires
 add_up-sums-requires c =
-    pairs (c.runs_into-taken.ensures.all (omega arith)) c.active_behind-part.result.now refl
-    (rw c.active_behind-part.ensures (omega (arith, part-within c.args.m.now, c.requires.few)))
+    (pairs (c.runs_into-taken.ensures.all (omega arith)) c.active_behind-part.result.now refl
+    (rw c.active_behind-part.ensures (omega (arith, part-within c.args.m.now, c.requires.few)))).few
 
 pub counted-counts-requires : goal.counted-counts-requires
 counted-counts-requires c =

@@ -1,12 +1,12 @@
 -- `scan::steps_into` meets its contract: the loop's invariant and its steps are `ScanInvariant`'s.
 -- Assumes nothing.
-use Prim.Native.Nat.{◌+◌, ◌-◌, ◌≤◌}
+use Rattle.std.proofs.Common.{◌+◌, ◌≤◌}
 use Rattle.scan.specs.Scan.{Onward}
 use Rattle.scan.proofs.steps_into.Given as goal
 
-abbrev pub invariant-loop-t : goal.invariant-loop-t
-invariant-loop-t l = Onward l.m l.from l.t l.initial.cs l.cs l.initial.ns l.ns l.initial.c l.initial.n l.initial.k l.c l.n l.k × (l.t ≤ l.count)
-    × (l.k ≤ l.initial.k + l.t)
-
-abbrev pub decreases-loop-t : goal.decreases-loop-t
-decreases-loop-t l = l.count - l.t
+abbrev pub invariant-loop-d : goal.invariant-loop-d
+invariant-loop-d l =
+    let q = l.initial.p in
+    Onward l.m l.from l.d-index l.initial.cs l.cs l.initial.ns l.ns q.class q.length q.place l.p.class l.p.length l.p.place
+    × (l.d-index ≤ l.count)
+    × (l.p.place ≤ q.place + l.d-index)

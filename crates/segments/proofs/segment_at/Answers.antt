@@ -1,39 +1,22 @@
--- `segments::segment_at` meets its contract. The loop's invariant: the segment wanted is the one that `left` others from the cursor on stand before.
+-- `segments::segment_at` meets its contract.
 -- Assumes nothing.
-use mathlib.Core.Path.{sym, ◌∙◌}
-use mathlib.Core.List.{[], ◌∷◌}
-use native.Mathlib.Omega.{arith}
-use Rattle.segments.proofs.Stretches.{Stepped, stepped, one_less, ended}
-use Rattle.segments.proofs.Answers.{nth-refused, nth-is, here, further, past_end}
+use Rattle.std.proofs.Common.{rules, sym, ◌∙◌}
+use Rattle.std.proofs.lemmas.Iterator.Adapters.{option_map_id}
+use Rattle.std.proofs.lemmas.Iterator.Consumers.{nth_from_yields_List, YieldsList-from_first}
+use Rattle.segments.specs.Promises.{nth_segment}
+use Rattle.segments.specs.Steps.{segments_from}
+use Rattle.segments.specs.declared.steps.Segments.{Segments}
+use Rattle.segments.proofs.Written.{nth-is}
 use Rattle.segments.proofs.segment_at.Goals as goal
 
-pub returns-then-measures-gt1048576 : goal.returns-then-measures-gt1048576
-returns-then-measures-gt1048576 c = nth-refused _ _ c.if-measures-gt1048576.true
-
-pub loop-segment-init : goal.loop-segment-init
-loop-segment-init c = rw c.first_cursor-c.ensures
-
-pub returns-then-left-eq0 : goal.returns-then-left-eq0
-returns-then-left-eq0 c =
-    let step : Stepped c.args.measures.now c.loop-segment.c.at c.in-Segment.segment c.in-Segment.next =
-    stepped _ _ _ _ (sym c.next_segment.ensures ∙ c.in-Segment.is) in
-    let l = c.loop-segment in
-    nth-is _ _ (omega arith) (_ ∷ _) (sym (here _ _ l.left step c.if-left-eq0.true) ∙ l.invariant)
-
-pub loop-segment-smaller : goal.loop-segment-smaller
-loop-segment-smaller c =
-    let step : Stepped c.args.measures.now c.loop-segment.c.at c.in-Segment.segment c.in-Segment.next =
-    stepped _ _ _ _ (sym c.next_segment.ensures ∙ c.in-Segment.is) in
-    omega (arith, one_less _ _ step)
-
-pub loop-segment-preserved : goal.loop-segment-preserved
-loop-segment-preserved c =
-    let step : Stepped c.args.measures.now c.loop-segment.c.at c.in-Segment.segment c.in-Segment.next =
-    stepped _ _ _ _ (sym c.next_segment.ensures ∙ c.in-Segment.is) in
-    let l = c.loop-segment in
-    sym (further _ _ l.left step c.if-left-eq0.false) ∙ l.invariant
+pub returns-in_err-measures : goal.returns-in_err-measures
+unfolding nth_segment
+returns-in_err-measures c = search rules
 
 pub returns : goal.returns
+unfolding nth_segment
 returns c =
-    let l = c.loop-segment in
-    nth-is _ _ (omega arith) [] (sym (past_end _ _ l.left (ended _ _ (sym c.next_segment.ensures ∙ c.in_default.is))) ∙ l.invariant)
+    let nth =
+    nth_from_yields_List c.nth.result c.nth.new.self c.args.k c.nth.ensures.ran
+    (YieldsList-from_first (λ s. s) (λ (s : Segments). segments_from s.measures.now s.at) _ c.new-2.ensures) in
+    rw (sym (option_map_id c.nth.result) ∙ nth, c.in_ok-measures.ensures.chart, ← c.in_ok-measures.ensures.no) (nth-is c.args.k _)

@@ -1,33 +1,27 @@
--- `segments::stream_sequences` meets its contract: the turns and what they write are `Written`'s.
+-- `segments::stream_sequences` meets its contract. The loop's invariant: the first i segments are written, and the iterator has the others left.
 -- Assumes nothing.
-use Rattle.std.proofs.Common.{arith, rules, ◌<◌, ◌≡◌, ◌+◌, length, length-set}
-use Rattle.segments.proofs.Written.{next-place, writing-starts, writing-more, writing-ends}
+use Rattle.std.proofs.Common.{◌≡◌, length, arith, ap, ◌∙◌}
+use Rattle.std.proofs.lemmas.List.{set-get_or}
+use Rattle.rules.specs.Chart.{classes}
+use Rattle.rules.specs.Calls.{segments}
+use Rattle.segments.proofs.Written.{writing-starts, writing-more, writing-ends, all-written}
 use Rattle.segments.proofs.stream_sequences.Goals as goal
 
-pub loop-t-init : goal.loop-t-init
-loop-t-init c = rw c.first_turn-t.ensures (writing-starts c.args.measures.now c.args.out.now)
+pub loop-i-init : goal.loop-i-init
+loop-i-init c = writing-starts _ _ _ (c.new-segments.ensures ∙ ap (λ m. segments (classes m)) c.in_ok-measures.ensures.chart)
 
-pub offset_bounds-out-t : goal.offset_bounds-out-t
-offset_bounds-out-t c =
-    let room : c.loop-t.t.place < length c.loop-t.out = (writing-more _ _ _ _ c.loop-t.invariant c.loop-t-test.true).0 in
-    search rules
+pub loop-i-preserved : goal.loop-i-preserved
+loop-i-preserved c = writing-more c.loop-i.invariant c.in-Some.segment _ c.in-Some.ensures.steps c.loop-i-test.true
 
-pub bounds-out-t : goal.bounds-out-t
-bounds-out-t c = (writing-more _ _ _ _ c.loop-t.invariant c.loop-t-test.true).0
-
-pub next_turn-t-requires : goal.next_turn-t-requires
-next_turn-t-requires c =
-    let room : c.loop-t.t.place < length c.loop-t.out = (writing-more _ _ _ _ c.loop-t.invariant c.loop-t-test.true).0 in
-    record { fits = search rules }
-
-pub loop-t-smaller : goal.loop-t-smaller
-loop-t-smaller c =
-    let room : c.loop-t.t.place < length c.loop-t.out = (writing-more _ _ _ _ c.loop-t.invariant c.loop-t-test.true).0 in
-    let next : c.next_turn-t.result.place ≡ c.loop-t.t.place + 1 = rw c.next_turn-t.ensures (next-place c.args.measures.now c.loop-t.t) in
-    omega (arith, length-set c.loop-t.out c.loop-t.t.place c.loop-t.t.segment, next, room)
-
-pub loop-t-preserved : goal.loop-t-preserved
-loop-t-preserved c = rw c.next_turn-t.ensures (writing-more _ _ _ _ c.loop-t.invariant c.loop-t-test.true).1
+pub returns-in_default : goal.returns-in_default
+returns-in_default c =
+    let in_ok = c.in_ok-measures.ensures in
+    let places = rw in_ok.chart at c.in_ok-check_places.ensures in
+    rw set-get_or (writing-ends c.loop-i.invariant in_ok.no places c.in_default.ensures.steps.0)
 
 pub returns : goal.returns
-returns c = writing-ends _ _ _ _ c.loop-t.invariant c.loop-t-test.false
+returns c =
+    let in_ok = c.in_ok-measures.ensures in
+    let places = rw in_ok.chart at c.in_ok-check_places.ensures in
+    let i : c.loop-i.i ≡ length c.loop-i.out = omega arith in
+    rw (← i) (writing-ends c.loop-i.invariant in_ok.no places (all-written c.loop-i.invariant places (omega arith)))

@@ -1,11 +1,8 @@
--- `segments::stream_sequences` meets its contract: the turns and what they write are `Written`'s.
+-- `segments::stream_sequences` meets its contract. The loop's invariant: the first i segments are written, and the iterator has the others left.
 -- Assumes nothing.
-use Rattle.std.proofs.Common.{◌-◌, length}
+use Rattle.segments.specs.Steps.{segments_from}
 use Rattle.segments.proofs.Written.{Writing}
 use Rattle.segments.proofs.stream_sequences.Given as goal
 
-abbrev pub invariant-loop-t : goal.invariant-loop-t
-invariant-loop-t l = Writing l.measures l.fn.out l.out l.t
-
-abbrev pub decreases-loop-t : goal.decreases-loop-t
-decreases-loop-t l = length l.out - l.t.place
+abbrev pub invariant-loop-i : goal.invariant-loop-i
+invariant-loop-i l = Writing l.fn.measures l.fn.out l.out l.i (segments_from l.segments.measures.now l.segments.at)

@@ -3,4 +3,4 @@
 use Rattle.sheet_lines.proofs.print_sheet.Goals as goal
 
 pub returns : goal.returns
-returns c = record { answer = rw (c.put_sheet-length.ensures.number, c.put_sheet-length.ensures.bytes) }
+returns c = record { answer = rw (c.put_answer.ensures.number, c.put_answer.ensures.bytes) }

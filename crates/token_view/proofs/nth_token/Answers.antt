@@ -1,21 +1,16 @@
--- `token_view::nth_token` meets its contract.
+-- `token_view::nth_token` meets its contract: the view's token number k.
 -- Assumes nothing.
-use mathlib.Core.Path.{sym, ap, ◌∙◌}
-use Rattle.rules.specs.Calls.{step_at}
-use Rattle.token_view.proofs.Views.{kept, nth-refused, nth-accepted}
+use Rattle.std.proofs.Common.{refl, sym, ◌∙◌}
+use Rattle.std.proofs.lemmas.Iterator.Adapters.{option_map_id}
+use Rattle.std.proofs.lemmas.Iterator.Consumers.{nth_from_yields_List, YieldsList-from_first}
+use Rattle.token_view.specs.Steps.{view_tokens}
+use Rattle.token_view.specs.declared.TokenView.{TokenView}
+use Rattle.token_view.proofs.Tokens.{nth-answered}
 use Rattle.token_view.proofs.nth_token.Goals as goal
-
-pub returns-then-refused-ne0 : goal.returns-then-refused-ne0
-returns-then-refused-ne0 c =
-    let a = c.args in
-    nth-refused a.k a.measures.now _ c.refusal-refused.ensures c.if-refused-ne0.true
 
 pub returns : goal.returns
 returns c =
-    let a = c.args in
-    let m = a.measures.now in
-    let q = c.refusal-refused in
-    let steps = c.steps_to in
-    let z = c.if-refused-ne0.false in
-    nth-accepted a.k m _ _ q.ensures z
-    (c.token_after.ensures ∙ sym (ap (step_at steps.result) (kept m (sym q.ensures ∙ z))) ∙ steps.ensures)
+    let token =
+    nth_from_yields_List c.nth.result c.nth.new.self c.args.k c.nth.ensures.ran
+    (YieldsList-from_first (λ t. t) (λ (v : TokenView). view_tokens v.measures.now) _ refl) in
+    rw c.unwrap_or.ensures (nth-answered c.args.k c.nth.result c.in_ok-view.ensures (sym (option_map_id c.nth.result) ∙ token))

@@ -1,13 +1,11 @@
 -- `breakdown::length::length_of_measures` meets its contract.
 -- Assumes nothing.
-use Prim.Native.Nat.{◌-◌}
-use mathlib.Core.Path.{◌≡◌}
 use lib.ListN.{length}
 use Rattle.breakdown.proofs.Tallied.{Tallied}
 use Rattle.breakdown.proofs.length.length_of_measures.Given as goal
 
-abbrev pub invariant-loop-i : goal.invariant-loop-i
-invariant-loop-i l = (length l.cs ≡ 256) × (length l.ns ≡ 256) × Tallied l.m l.i l.form l.tally
+abbrev pub invariant-loop-parts : goal.invariant-loop-parts
+invariant-loop-parts l = Tallied l.fn.part.measures.now l.parts.rest.now l.form l.tally
 
-abbrev pub decreases-loop-i : goal.decreases-loop-i
-decreases-loop-i l = length l.m - l.i
+abbrev pub decreases-loop-parts : goal.decreases-loop-parts
+decreases-loop-parts l = length l.parts.rest.now

@@ -1,23 +1,29 @@
 -- `chart_texts::three::texts_fit` meets its contract.
 -- Assumes nothing.
-use mathlib.Core.Path.{sym}
-use native.Mathlib.Nat.{le_trans}
-use native.Mathlib.Omega.{arith}
-use borrow.Author.Tests.{le-leb}
-use Rattle.chart_texts.proofs.Texts.{text-short}
-use Rattle.chart_texts.proofs.EndToEnd.{three-length, three-short}
+use Rattle.std.proofs.Common.{rules, ◌^◌, arith}
+use Rattle.std.proofs.lemmas.Iterator.{YieldsList-from_slice, YieldsList-from_map}
+use Rattle.std.proofs.lemmas.Iterator.Consumers.{YieldsList-at, fits_by_from_yields_list, sum_by_from_yields_List}
+use Rattle.chart_texts.proofs.EndToEnd.{due, due-bytes, three-short}
 use Rattle.chart_texts.proofs.three.texts_fit.Goals as goal
 
-pub returns-then-m-room : goal.returns-then-m-room
-returns-then-m-room c = sym (le-leb _ _ (le_trans (three-short _ _ _ _) c.if-m-room.true))
+pub returns-then-chart-room : goal.returns-then-chart-room
+returns-then-chart-room c =
+    let s = three-short c.args.chart.measures.now c.args.kinds (omega arith) in
+    grind arith
 
-pub overflow_add-result : goal.overflow_add-result
-overflow_add-result c = let s = c.args in omega (arith, text-short s.m.now s.a, text-short s.m.now s.b)
-
-pub overflow_add-result-2 : goal.overflow_add-result-2
-overflow_add-result-2 c =
-    let s = c.args in
-    omega (arith, text-short s.m.now s.a, text-short s.m.now s.b, text-short s.m.now s.c)
+pub sum-due-requires-clause-fits : goal.sum-due-requires-clause-fits
+sum-due-requires-clause-fits c =
+    let m = c.args.chart.measures.now in
+    let ks = c.args.kinds in
+    let s = three-short m ks (omega arith) in
+    fits_by_from_yields_list (due m) ks c.map.result (2 ^ 64)
+    (YieldsList-from_map _ (due m) (YieldsList-at c.map.ensures.source (YieldsList-from_slice ks cc)) c.map.ensures.closure (λ x r q k. search rules))
+    (omega (arith, due-bytes m ks, c.args.chart.few))
 
 pub returns : goal.returns
-returns c = rw (three-length _ _ _ _, c.text_due.ensures, c.text_due-2.ensures, c.text_due-3.ensures)
+returns c =
+    let m = c.args.chart.measures.now in
+    let ks = c.args.kinds in
+    let e = sum_by_from_yields_List (due m) ks c.map.result c.sum-due.result c.sum-due.ensures.ran
+    (YieldsList-from_map _ (due m) (YieldsList-at c.map.ensures.source (YieldsList-from_slice ks cc)) c.map.ensures.closure (λ x r q k. search rules)) in
+    rw (e, due-bytes)

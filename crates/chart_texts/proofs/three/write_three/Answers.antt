@@ -1,37 +1,18 @@
--- `chart_texts::three::write_three` meets its contract: each text has room where the one before it ended.
+-- `chart_texts::three::write_three` meets its contract: the texts before kind number i are written, one after the other.
 -- Assumes nothing.
-use Rattle.chart_texts.proofs.Answers.{said-no, said-yes}
-use Rattle.chart_texts.proofs.EndToEnd.{three-1, three-4, room-1, room-2, room-3, three-0}
+use Rattle.std.proofs.Common.{arith, sym, ◌∙◌}
+use borrow.Author.Tests.{leb-true}
+use Rattle.chart_texts.proofs.EndToEnd.{room-here, on, written-three}
 use Rattle.chart_texts.proofs.three.write_three.Goals as goal
 
-pub returns-then-m-gt1048576 : goal.returns-then-m-gt1048576
-returns-then-m-gt1048576 c = rw c.refused.ensures (three-1 _ _ _ _ _ c.if-m-gt1048576.true)
+pub put_text-next-requires : goal.put_text-next-requires
+put_text-next-requires c =
+    room-here c.loop-i.invariant (omega arith) (leb-true _ _ (sym c.texts_fit.ensures ∙ c.if-not-texts_fit.false))
 
-pub returns-then-not-texts_fit : goal.returns-then-not-texts_fit
-returns-then-not-texts_fit c =
-    rw c.refused-then-not-texts_fit.ensures
-    (three-4 _ _ _ _ _ c.if-m-gt1048576.false (said-no c.texts_fit.ensures c.if-not-texts_fit.true))
-
-pub put_text-first-requires : goal.put_text-first-requires
-put_text-first-requires c = room-1 _ _ _ _ _ c.if-m-gt1048576.false (said-yes c.texts_fit.ensures c.if-not-texts_fit.false)
-
-pub put_text-second-requires : goal.put_text-second-requires
-put_text-second-requires c =
-    room-2 _ _ _ _ _ c.if-m-gt1048576.false
-    (said-yes c.texts_fit.ensures c.if-not-texts_fit.false)
-    c.put_text-first.ensures
-
-pub put_text-third-requires : goal.put_text-third-requires
-put_text-third-requires c =
-    room-3 _ _ _ _ _ c.if-m-gt1048576.false
-    (said-yes c.texts_fit.ensures
-    c.if-not-texts_fit.false)
-    c.put_text-first.ensures c.put_text-second.ensures
+pub loop-i-preserved : goal.loop-i-preserved
+loop-i-preserved c = on c.loop-i.invariant (omega arith) c.put_text-next.ensures
 
 pub returns : goal.returns
 returns c =
-    three-0 _ _ _ _ _ c.if-m-gt1048576.false
-    (said-yes c.texts_fit.ensures
-    c.if-not-texts_fit.false)
-    c.put_text-first.ensures
-    c.put_text-second.ensures c.put_text-third.ensures
+    let chart = c.in_ok-chart in
+    written-three chart.ensures.chart chart.chart.few.few (sym c.texts_fit.ensures ∙ c.if-not-texts_fit.false) c.loop-i.invariant (omega arith)

@@ -2,50 +2,30 @@
 -- Assumes nothing.
 use mathlib.Core.Path.{◌≡◌, sym, ◌∙◌}
 use native.Mathlib.Omega.{arith}
-use borrow.Author.Tests.{le-leb, lt-leb, lt-ltb}
+use borrow.Author.Tests.{le-leb, lt-ltb}
 use Rattle.rules.specs.Chart.{classes, streams}
-use Rattle.rules.proofs.Share.{share-most}
-use Rattle.counts.proofs.Shared.{Known, known}
+use Rattle.counts.proofs.Shared.{known}
 use Rattle.counts.proofs.share.share.Goals as goal
 
-pub returns-then-m-gt1048576 : goal.returns-then-m-gt1048576
-returns-then-m-gt1048576 c = rw (lt-leb _ 1048576 c.if-m-gt1048576.true)
-
-pub overflow_add-streams : goal.overflow_add-streams
-overflow_add-streams c =
-    let counted : Known c.args.m.now c.chart_counts-counts.result = known c.args.m.now _ c.if-m-gt1048576.false c.chart_counts-counts.ensures in
-    let k = counted in omega arith
-
-pub overflow_add-streams-2 : goal.overflow_add-streams-2
-overflow_add-streams-2 c =
-    let counted : Known c.args.m.now c.chart_counts-counts.result = known c.args.m.now _ c.if-m-gt1048576.false c.chart_counts-counts.ensures in
-    let k = counted in omega arith
-
-pub overflow_add-streams-3 : goal.overflow_add-streams-3
-overflow_add-streams-3 c =
-    let counted : Known c.args.m.now c.chart_counts-counts.result = known c.args.m.now _ c.if-m-gt1048576.false c.chart_counts-counts.ensures in
-    let k = counted in omega arith
+pub stream_measures-streams-requires : goal.stream_measures-streams-requires
+stream_measures-streams-requires c =
+    let k = known c.in_ok-chart.chart.measures.now _ c.in_ok-chart.chart.few.few c.chart_counts-counts.ensures in omega arith
 
 pub returns-then-streams-eq0 : goal.returns-then-streams-eq0
 returns-then-streams-eq0 c =
-    let counted : Known c.args.m.now c.chart_counts-counts.result = known c.args.m.now _ c.if-m-gt1048576.false c.chart_counts-counts.ensures in
-    let none : streams (classes c.args.m.now) ≡ 0 = sym counted.sum ∙ c.if-streams-eq0.true in
-    rw (le-leb _ 1048576 c.if-m-gt1048576.false, none)
+    let m = c.in_ok-chart.chart in
+    let k = known m.measures.now _ m.few.few c.chart_counts-counts.ensures in
+    let none : streams (classes m.measures.now) ≡ 0 = sym k.sum ∙ sym c.stream_measures-streams.ensures ∙ c.if-streams-eq0.true in
+    rw (← c.in_ok-chart.ensures.chart, le-leb _ 1048576 m.few.few, none)
 
 pub overflow_add-all : goal.overflow_add-all
 overflow_add-all c =
-    let counted : Known c.args.m.now c.chart_counts-counts.result = known c.args.m.now _ c.if-m-gt1048576.false c.chart_counts-counts.ensures in
-    let k = counted in omega arith
-
-pub overflow_cast-result : goal.overflow_cast-result
-overflow_cast-result c =
-    let counted : Known c.args.m.now c.chart_counts-counts.result = known c.args.m.now _ c.if-m-gt1048576.false c.chart_counts-counts.ensures in
-    let k = counted in
-    omega (arith, share-most (classes c.args.m.now))
+    let k = known c.in_ok-chart.chart.measures.now _ c.in_ok-chart.chart.few.few c.chart_counts-counts.ensures in
+    omega (arith, c.stream_measures-streams.ensures)
 
 pub returns : goal.returns
 returns c =
-    let counted : Known c.args.m.now c.chart_counts-counts.result = known c.args.m.now _ c.if-m-gt1048576.false c.chart_counts-counts.ensures in
-    let k = counted in
-    let some = lt-ltb 0 (streams (classes c.args.m.now)) (omega arith) in
-    rw (le-leb _ 1048576 c.if-m-gt1048576.false, some, c.ten_thousandths-share.ensures, k.part)
+    let m = c.in_ok-chart.chart in
+    let k = known m.measures.now _ m.few.few c.chart_counts-counts.ensures in
+    let some = lt-ltb 0 (streams (classes m.measures.now)) (omega arith) in
+    rw (← c.in_ok-chart.ensures.chart, le-leb _ 1048576 m.few.few, some, c.ten_thousandths.ensures, c.stream_measures-streams.ensures, k.part)

@@ -1,23 +1,23 @@
--- `measures::active::lead_in` meets its contract: the loop's invariant is that each measure passed is a break.
+-- `measures::active::lead_in` meets its contract: what is skipped are breaks, and after them the first stream measure is looked for.
 -- Assumes nothing.
-use Rattle.std.proofs.Common.{arith, below_more}
-use Rattle.measures.proofs.Part.{led-in}
+use Rattle.std.proofs.Common.{◌+◌, ◌≤◌, ◌<◌, drop, ◌∙◌, rules, arith}
+use Rattle.std.proofs.lemmas.Iterator.{YieldsList-from_slice, IsFirst-from_position}
+use borrow.Author.Tests.{tests}
+use Rattle.measures.specs.Active.{LedIn}
+use Rattle.measures.proofs.Part.{rest-drop, led-after}
 use Rattle.measures.proofs.active.lead_in.Goals as goal
+use Rattle.measures.proofs.active.lead_in.Goals.{After-unwrap_or}
 
-pub loop-i-init : goal.loop-i-init
-loop-i-init c =
-    let s = c.skip-i.ensures in
-    (s.within, λ k h. omega (arith, (s.each k (omega arith) h).1))
+led : (c : After-unwrap_or) → LedIn c.args.m.now (c.skip-skipped.result + c.unwrap_or.result)
+led c =
+    let m = c.args.m.now in
+    let s = c.skip-skipped.result in
+    let found = IsFirst-from_position _ _ _ (λ d. 16 ≤ d) (λ d. d < 16) c.position.ensures.ran (YieldsList-from_slice (drop s m) (c.iter.ensures.rest ∙ rest-drop m s))
+    (λ x q k. search (rules, tests)) (λ x q k. search (rules, tests)) in
+    rw (c.unwrap_or.ensures, rest-drop m s) (led-after m s c.skip-skipped.ensures c.position.result found)
 
-pub returns-then-m-i-ge16 : goal.returns-then-m-i-ge16
-returns-then-m-i-ge16 c =
-    let l = c.loop-i in
-    led-in c.args.m.now l.i l.invariant.0 l.invariant.1 (λ h. c.if-m-i-ge16.true)
-
-pub loop-i-preserved : goal.loop-i-preserved
-loop-i-preserved c = (omega arith, below_more _ _ c.loop-i.invariant.1 c.if-m-i-ge16.false)
+pub overflow_add-result : goal.overflow_add-result
+overflow_add-result c = omega (arith, (led c).within)
 
 pub returns : goal.returns
-returns c =
-    let l = c.loop-i in
-    led-in c.args.m.now l.i l.invariant.0 l.invariant.1 (λ h. absurd (omega arith))
+returns c = led c

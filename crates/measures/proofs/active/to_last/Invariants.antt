@@ -3,8 +3,5 @@
 use Rattle.measures.proofs.Part.{Back}
 use Rattle.measures.proofs.active.to_last.Given as goal
 
-abbrev pub invariant-loop-e : goal.invariant-loop-e
-invariant-loop-e l = Back l.m l.e
-
-abbrev pub decreases-loop-e : goal.decreases-loop-e
-decreases-loop-e l = l.e
+abbrev pub invariant-loop-last : goal.invariant-loop-last
+invariant-loop-last l = Back l.m l.last

@@ -1,13 +1,9 @@
--- `measures::tokens::run_end` meets its contract. The loop's invariant: the measures from `at` up to i are of the class.
+-- `measures::tokens::run_end` meets its contract. The loop's invariant: the first n measures from `at` on are of the class.
 -- Assumes nothing.
-use Rattle.std.proofs.Common.{◌≡◌, ◌+◌, ◌-◌, ◌≤◌, length, drop}
+use Rattle.std.proofs.Common.{◌≡◌, ◌+◌, drop}
 use Rattle.rules.specs.Chart.{classes}
 use Rattle.rules.specs.Slices.{leading}
 use Rattle.measures.proofs.tokens.run_end.Given as goal
 
-abbrev pub invariant-loop-i : goal.invariant-loop-i
-invariant-loop-i l =
-    (l.i ≤ length l.m) × (l.at + leading l.class (classes (drop l.at l.m)) ≡ l.i + leading l.class (classes (drop l.i l.m)))
-
-abbrev pub decreases-loop-i : goal.decreases-loop-i
-decreases-loop-i l = length l.m - l.i
+abbrev pub invariant-loop-n : goal.invariant-loop-n
+invariant-loop-n l = l.at + leading l.class (classes (drop l.at l.m)) ≡ (l.at + l.n) + leading l.class (classes (drop (l.at + l.n) l.m))

@@ -6,13 +6,13 @@ use Rattle.rules.proofs.View.{run_fits}
 use Rattle.measures.proofs.Stepping.{ended_at, token-from}
 use Rattle.measures.proofs.tokens.token_at.Goals as goal
 
-pub returns-then-m-gt1048576 : goal.returns-then-m-gt1048576
-returns-then-m-gt1048576 c =
+pub returns-then-m-gt-MOST_MEASURES : goal.returns-then-m-gt-MOST_MEASURES
+returns-then-m-gt-MOST_MEASURES c =
     let a = c.args in
     ⊎_elim
     (λ w. rw (none-admitted a.m.now w) (ended_at [] a.at (omega arith)))
     (λ w. rw (all-admitted a.m.now w.0) (ended_at a.m.now a.at w.1))
-    c.then-m-gt1048576.either
+    c.then-m-gt-MOST_MEASURES.either
 
 pub run_end-end-requires : goal.run_end-end-requires
 run_end-end-requires c = record { few = search rules; within = omega (arith, leb-false) }

@@ -19,14 +19,8 @@ ten-more t {mid = mid} {new = new} s n =
     rw e (places-on (10 * t) 10 (λ i v h w. rw zero-add w) s ten)
 
 pub loop-tens-init : goal.loop-tens-init
-loop-tens-init c = (places-none, omega arith)
+loop-tens-init c = places-none
 
 pub loop-tens-preserved : goal.loop-tens-preserved
 loop-tens-preserved c =
-    let l = c.loop-tens in
-    (ten-more l.tens l.invariant.0 c.set_ten.ensures, omega arith)
-
-pub returns : goal.returns
-returns c =
-    let e : 10 * c.loop-tens.tens ≡ 100 = omega arith in
-    rw e at c.loop-tens.invariant.0
+    ten-more c.loop-tens.tens c.loop-tens.invariant c.set_ten.ensures

@@ -1,12 +1,9 @@
 -- `number::words::set_numbers` meets its contract.
 -- Assumes nothing.
-use Prim.Native.Nat.{◌*◌, ◌-◌, ◌≤◌}
+use Prim.Native.Nat.{◌*◌}
 use Rattle.number.specs.PlacesSet.{PlacesSet}
 use Rattle.number.specs.Word.{number_word}
 use Rattle.number.proofs.words.set_numbers.Given as goal
 
 abbrev pub invariant-loop-tens : goal.invariant-loop-tens
-invariant-loop-tens l = PlacesSet (number_word 0) 0 (10 * l.tens) l.initial.words l.words × (l.tens ≤ 10)
-
-abbrev pub decreases-loop-tens : goal.decreases-loop-tens
-decreases-loop-tens l = 10 - l.tens
+invariant-loop-tens l = PlacesSet (number_word 0) 0 (10 * l.tens) l.initial.words l.words

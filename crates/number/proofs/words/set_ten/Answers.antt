@@ -1,7 +1,6 @@
 -- `number::words::set_ten` meets its contract.
 -- Assumes nothing.
 use Prim.Native.Nat.{◌+◌}
-use mathlib.Core.Path.{◌≡◌}
 use mathlib.Core.List.{[], ◌∷◌}
 use native.Mathlib.Omega.{arith}
 use Rattle.number.specs.Word.{byte_text, Word}
@@ -15,7 +14,7 @@ last_word : (c : After-word_before) → Word ((48 + c.loop-last.last) ∷ []) c.
 last_word c = rw (byte-text (48 + c.loop-last.last) (λ e. omega arith)) at c.word_before.ensures
 
 pub loop-last-init : goal.loop-last-init
-loop-last-init c = (places-none, omega arith)
+loop-last-init c = places-none
 
 pub word_before-requires-in-loop-last : goal.word_before-requires-in-loop-last
 word_before-requires-in-loop-last c = omega (arith, word_count (last_word (goal.at.word_before-requires-in-loop-last c).After-word_before))
@@ -25,9 +24,4 @@ loop-last-preserved c =
     let l = c.loop-last in
     let f = c.first_byte-first in
     let w = word_on (byte_text f.result) (last_word (goal.at.loop-last-preserved c).After-word_before) c.word_before-in-loop-last.ensures in
-    (places-more _ _ (omega arith) l.invariant.0 (rw (f.ensures, short-digits c.args.tens l.last c.requires.0 (omega arith)) at w), omega arith)
-
-pub returns : goal.returns
-returns c =
-    let e : c.loop-last.last ≡ 10 = omega arith in
-    rw e at c.loop-last.invariant.0
+    places-more _ _ (omega arith) l.invariant (rw (f.ensures, short-digits c.args.tens l.last c.requires.0 (omega arith)) at w)

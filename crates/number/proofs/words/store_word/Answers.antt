@@ -1,18 +1,13 @@
 -- `number::words::store_word` meets its contract.
 -- Assumes nothing.
-use native.Mathlib.Omega.{arith}
-use lib.ListN.{length-set}
-use Rattle.number.proofs.Word.{word-stored}
+use Rattle.std.proofs.Common.{◌≡◌, ◌/◌, ◌%◌, ◌+◌, ◌-◌, ◌∙◌, arith}
+use Rattle.number.specs.Word.{word_bytes}
+use Rattle.number.proofs.Place.{put-part}
 use Rattle.number.proofs.words.store_word.Goals as goal
 
-pub bounds-buf-k-2 : goal.bounds-buf-k-2
-bounds-buf-k-2 c = rw length-set (omega (arith, c.requires))
-
-pub bounds-buf-k-3 : goal.bounds-buf-k-3
-bounds-buf-k-3 c = rw (length-set, length-set) (omega (arith, c.requires))
-
-pub bounds-buf-k-4 : goal.bounds-buf-k-4
-bounds-buf-k-4 c = rw (length-set, length-set, length-set) (omega (arith, c.requires))
-
 pub returns : goal.returns
-returns c = word-stored c.args.buf.now c.args.k c.args.w
+returns c =
+    let w = c.args.w in
+    let last : w / 16777216 % 256 ≡ w / 16777216 = omega arith in
+    let bytes : c.copy_from_slice.new.self ≡ word_bytes w = c.copy_from_slice.ensures.after ∙ c.to_le_bytes.ensures ∙ rw last in
+    rw bytes (put-part c.args.buf.now (word_bytes w) c.args.k (c.args.k + 4 - c.args.k) (omega arith) (omega (arith, c.requires)))

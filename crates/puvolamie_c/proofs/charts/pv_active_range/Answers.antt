@@ -1,6 +1,5 @@
 -- `puvolamie_c::charts::pv_active_range` meets its contract.
 -- Assumes nothing.
-use borrow.Author.Rules.{rules}
 use Rattle.measures.proofs.Part.{active-length}
 use Rattle.puvolamie_c.proofs.charts.pv_active_range.Goals as goal
 

@@ -1,27 +1,19 @@
 -- `record::questions::is_name` meets its contract.
 -- Assumes nothing.
-use Rattle.record.proofs.Naming.{name-empty, name-long, starts, done, below, above, step}
+use Prim.Native.Nat.{◌≤◌}
+use mathlib.Core.Path.{◌∙◌}
+use lib.ListN.{length}
+use borrow.Author.Tests.{le-leb}
+use Rattle.std.proofs.Common.{rules, tests}
+use Rattle.std.proofs.lemmas.Iterator.{YieldsList-from_slice}
+use Rattle.std.proofs.lemmas.Iterator.Search.{all_from_yields_List}
+use Rattle.record.proofs.Naming.{plain, all-plain}
 use Rattle.record.proofs.questions.is_name.Goals as goal
 
-pub returns-then-payload-lt1 : goal.returns-then-payload-lt1
-returns-then-payload-lt1 c = name-empty c.args.payload.now c.if-payload-lt1.true
-
-pub returns-then-payload-gt64 : goal.returns-then-payload-gt64
-returns-then-payload-gt64 c = name-long c.args.payload.now c.if-payload-lt1.false c.if-payload-gt64.true
-
-pub loop-i-init : goal.loop-i-init
-loop-i-init c = starts c.args.payload.now c.if-payload-lt1.false c.if-payload-gt64.false
-
-pub returns-then-payload-i-lt32 : goal.returns-then-payload-i-lt32
-returns-then-payload-i-lt32 c = below c.loop-i.invariant c.loop-i-test.true c.if-payload-i-lt32.true
-
-pub returns-then-payload-i-gt126 : goal.returns-then-payload-i-gt126
-returns-then-payload-i-gt126 c =
-    above c.loop-i.invariant c.loop-i-test.true c.if-payload-i-lt32.false c.if-payload-i-gt126.true
-
-pub loop-i-preserved : goal.loop-i-preserved
-loop-i-preserved c =
-    step c.loop-i.invariant c.loop-i-test.true c.if-payload-i-lt32.false c.if-payload-i-gt126.false
-
-pub returns : goal.returns
-returns c = done c.loop-i.invariant c.loop-i-test.false
+pub returns-then-contains : goal.returns-then-contains
+returns-then-contains c =
+    let p = c.args.payload.now in
+    let all = all_from_yields_List plain _ _ c.all.result c.all.ensures.ran (YieldsList-from_slice p cc) (λ x b q k. search (rules, tests)) in
+    let some : 1 ≤ length c.args.payload.now = search (rules, tests) in
+    let few : length c.args.payload.now ≤ 64 = search (rules, tests) in
+    rw (le-leb 1 (length c.args.payload.now) some, le-leb (length c.args.payload.now) 64 few) (all ∙ all-plain p)

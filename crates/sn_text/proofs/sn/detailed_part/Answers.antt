@@ -1,101 +1,64 @@
 -- `sn_text::sn::detailed_part` meets its contract: the loop's steps are `SnParts`'s.
 -- Assumes nothing.
-use Prim.Native.Nat.{◌+◌, ◌-◌, ◌<◌}
-use mathlib.Core.Path.{◌∙◌}
+use Prim.Native.Nat.{◌-◌, ◌<◌}
+use mathlib.Core.Path.{◌≡◌}
 use native.Mathlib.Omega.{arith}
-use lib.ListN.{length}
-use Rattle.text_buffer.proofs.Added.{added_out}
+use lib.ListN.{length, get_or, length-append}
 use Rattle.number.proofs.Grown.{within}
 use Rattle.text_buffer.proofs.Reading.{tokens-low}
-use Rattle.sn_text.proofs.SnParts.{none_written, listing-starts, listing-low, listing-room, listing-next, first-room, others-room, listing-ends}
+use Rattle.sn_text.proofs.SnParts.{listing-low, listing-room, listing-next, first-room, others-room, listing-ends}
+use Rattle.sn_text.proofs.Zipped.{front_turn, front_end}
 use Rattle.sn_text.proofs.sn.detailed_part.Goals as goal
-
-pub returns-then-cs-eq0 : goal.returns-then-cs-eq0
-returns-then-cs-eq0 c = let p = c.requires in none_written 0 _ _ _ p.tokens c.if-cs-eq0.true p.ready.few
+use Rattle.sn_text.proofs.sn.detailed_part.Goals.{In-Some}
 
 pub add_ended-first-requires : goal.add_ended-first-requires
-add_ended-first-requires c =
-    let p = c.requires in (omega (arith, p.ready.long, p.ready.few), p.ready.words, tokens-low p.tokens)
+add_ended-first-requires c = (omega arith, tokens-low c.requires.tokens)
 
 pub flush-to-requires : goal.flush-to-requires
 flush-to-requires c =
-    let p = c.requires in
-    let g = c.add_ended-first.ensures in (
-      within _ (omega (arith, p.ready.long, p.ready.few)) g,
-      first-room _ _ _ p.tokens
-          c.if-cs-eq0.false g p.room,
-    )
+    let g = c.add_ended-first.ensures in
+    (within _ (omega arith) g, first-room _ _ _ c.args.tokens.paired c.requires.tokens (λ z. c.if-len-eq0.false (omega (arith, z))) g c.requires.room)
 
-pub loop-i-init : goal.loop-i-init
-loop-i-init c = (
-  omega arith,
-  listing-starts _ _ _ _ _ _ c.requires.tokens.behind c.flush-to.ensures.few,
-)
+-- this turn's token
+turn : (c : In-Some) → let l = c.loop-class in
+    (length l.yielded < c.len-last.result - 1) × (c.in-Some.class.now ≡ get_or c.args.tokens.classes.now (length l.yielded) 0)
+    × (c.in-Some.n.now ≡ get_or c.args.tokens.lengths.now (length l.yielded) 0)
+turn c =
+    let l = c.loop-class in
+    front_turn _ _ (c.len-last.result - 1) c.args.tokens.paired (omega arith) l.yielded c.into_iter-class-iterator.result l.class-iterator c.next.new.self
+    c.next.result (cc) (cc) l.yielded_by c.next.ensures.steps (c.in-Some.class, c.in-Some.n) c.in-Some.is
 
 pub add_token-full-requires : goal.add_token-full-requires
 add_token-full-requires c =
-    let i = c.loop-i.invariant.1 in
-    let a = i.wrote in
-    let p = c.requires in (
-      omega (
-        arith,
-        a.long,
-        a.few,
-        c.add_ended-first.ensures.long,
-        p.ready.long,
-      ),
-      p.ready.words,
-      listing-low i p.tokens.long (omega (arith, c.loop-i-test.true)),
+    let t = turn (goal.at.add_token-full-requires c).In-Some in
+    let i = c.loop-class.invariant in
+    (omega (arith, i.wrote.long, i.wrote.few), rw t.1 (listing-low i c.args.tokens.paired (omega (arith, t.0))))
+
+pub flush-to-requires-in-loop-class : goal.flush-to-requires-in-loop-class
+flush-to-requires-in-loop-class c =
+    let p = c.args.tokens.paired in
+    let t = turn (goal.at.flush-to-requires-in-loop-class c).In-Some in
+    let i = c.loop-class.invariant in
+    let g = rw (t.1, t.2) at c.add_token-full.ensures in (
+      within _ (omega (arith, i.wrote.long, i.wrote.few)) g,
+      listing-room i p (omega (arith, t.0)) g
+          (others-room _ _ _ p c.requires.tokens (λ z. c.if-len-eq0.false (omega (arith, z))) c.add_ended-first.ensures c.flush-to.ensures c.requires.room),
     )
 
-pub flush-to-requires-in-loop-i : goal.flush-to-requires-in-loop-i
-flush-to-requires-in-loop-i c =
-    let w = c.loop-i.invariant.1 in
-    let p = c.requires in
-    let g = c.add_token-full.ensures in
-    let e = c.add_ended-first.ensures in (
-      within _ (omega (arith, w.wrote.long, w.wrote.few, e.long, p.ready.long)) g,
-      listing-room w p.tokens.long (omega (arith, c.loop-i-test.true)) g
-          (others-room _ _ _ p.tokens c.if-cs-eq0.false e c.flush-to.ensures p.room),
-    )
-
-pub overflow_add-i : goal.overflow_add-i
-overflow_add-i c =
-    let h : c.loop-i.i + 1 < length
-    c.args.cs.now = omega
-    (arith, c.loop-i-test.true) in
-    omega (
-      arith,
-      h,
-      c.requires.tokens.few,
-    )
-
-pub loop-i-smaller : goal.loop-i-smaller
-loop-i-smaller c = omega (arith, c.loop-i-test.true)
-
-pub loop-i-preserved : goal.loop-i-preserved
-loop-i-preserved c = (
-  omega arith,
-  listing-next c.loop-i.invariant.1
-      c.requires.tokens.long
-      (omega (arith, c.loop-i-test.true))
-      c.add_token-full.ensures c.flush-to-in-loop-i.ensures,
-)
-
-pub shape_of-buf : goal.shape_of-buf
-shape_of-buf c =
-    c.loop-i.invariant.1.wrote.long ∙ c.add_ended-first.ensures.long
-
-pub shape_of-out : goal.shape_of-out
-shape_of-out c =
-    added_out _ c.loop-i.invariant.1.wrote
-    ∙ added_out _ c.flush-to.ensures
+pub loop-class-preserved : goal.loop-class-preserved
+loop-class-preserved c =
+    let t = turn (goal.at.loop-class-preserved c).In-Some in
+    rw length-append
+    (listing-next c.loop-class.invariant c.args.tokens.paired (omega (arith, t.0)) (rw (t.1, t.2) at c.add_token-full.ensures)
+    c.flush-to-in-loop-class.ensures)
 
 pub returns : goal.returns
 returns c =
-    let i = c.loop-i.invariant in
+    let p = c.args.tokens.paired in
+    let l = c.loop-class in
+    let m = c.len-last.result - 1 in
+    let e = front_end c.args.tokens.classes.now c.args.tokens.lengths.now m p (omega arith) l.yielded c.into_iter-class-iterator.result l.class-iterator c.next.new.self c.next.result
+    (cc) (cc) l.yielded_by c.next.ensures.steps c.in-None.is in
     rw c.open_run.ensures
-    (listing-ends _ _ _ c.requires.tokens c.if-cs-eq0.false c.add_ended-first.ensures
-    c.flush-to.ensures i.1 _ (omega (arith, i.0, c.loop-i-test.false))
-    (omega (arith, c.if-cs-eq0.false))
-    (omega (arith, c.shared_slice_known-4-1.given (length c.args.cs.now - 1))))
+    (listing-ends _ _ _ p c.requires.tokens (λ z. c.if-len-eq0.false (omega (arith, z))) c.add_ended-first.ensures c.flush-to.ensures l.invariant m e
+    (omega arith) (omega arith))

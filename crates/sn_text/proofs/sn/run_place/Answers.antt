@@ -6,10 +6,10 @@ use native.Mathlib.Omega.{arith}
 use Rattle.sn_text.proofs.SnParts.{run-next, break-next}
 use Rattle.sn_text.proofs.sn.run_place.Goals as goal
 
-pub returns-then-cs-i-eq0 : goal.returns-then-cs-i-eq0
-returns-then-cs-i-eq0 c =
+pub returns-then-tokens-i-eq0 : goal.returns-then-tokens-i-eq0
+returns-then-tokens-i-eq0 c =
     let two : c.args.i + 1 + 1 ≡ c.args.i + 2 = omega arith in
-    rw two (break-next c.requires c.if-cs-i-eq0.true)
+    rw two (break-next c.args.tokens.paired c.requires c.if-tokens-i-eq0.true)
 
 pub returns : goal.returns
-returns c = run-next c.requires c.if-cs-i-eq0.false
+returns c = run-next c.args.tokens.paired c.requires c.if-tokens-i-eq0.false

@@ -3,14 +3,6 @@
 use Rattle.sn_text.proofs.SnThree.{opened-written}
 use Rattle.sn_text.proofs.three.sn_three.Goals as goal
 
-pub add_run-requires-3 : goal.add_run-requires-3
-add_run-requires-3 c =
-    let o = c.three_turns-t.ensures.simplified in (
-      o.room,
-      c.requires.words,
-      o.low,
-    )
-
 pub returns : goal.returns
 returns c =
     let o = c.three_turns-t.ensures in

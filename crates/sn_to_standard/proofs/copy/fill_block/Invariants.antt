@@ -1,13 +1,8 @@
 -- `sn_to_standard::copy::fill_block` meets its contract.
 -- Assumes nothing.
-use Prim.Native.Nat.{◌-◌, ◌≤◌}
-use mathlib.Core.Path.{◌≡◌}
-use lib.ListN.{length, take}
+use Rattle.std.proofs.Common.{◌≡◌, length, take}
 use Rattle.sn_to_standard.specs.Copied.{shown_part}
 use Rattle.sn_to_standard.proofs.copy.fill_block.Given as goal
 
 abbrev pub invariant-loop-j : goal.invariant-loop-j
-invariant-loop-j l = (l.j ≤ l.n) × (length l.block ≡ 256) × (take l.j l.block ≡ shown_part l.text l.i l.j)
-
-abbrev pub decreases-loop-j : goal.decreases-loop-j
-decreases-loop-j l = l.n - l.j
+invariant-loop-j l = (length l.block ≡ 256) × (take l.j l.block ≡ shown_part l.text l.i l.j)

@@ -1,6 +1,6 @@
 -- `sn_to_standard::copy::put_copied` meets its contract: behind the first byte, the loop's invariant and its steps are `Reached`'s.
 -- Assumes nothing.
-use Prim.Native.Nat.{◌-◌, ◌≤◌}
+use Prim.Native.Nat.{◌≤◌}
 use lib.ListN.{drop}
 use Rattle.number.specs.Place.{Room}
 use Rattle.text_buffer.proofs.Reached.{Reached}
@@ -13,6 +13,3 @@ invariant-loop-i l =
     × (l.i ≤ l.last)
     × Room l.initial.out l.initial.place (kept (drop 1 (shown_bytes 41 l.text)))
     × Reached l.initial.out l.initial.place (kept (drop 1 (shown_bytes 41 l.text))) (kept (drop l.i (shown_bytes 41 l.text))) l.out l.place
-
-abbrev pub decreases-loop-i : goal.decreases-loop-i
-decreases-loop-i l = l.last - l.i

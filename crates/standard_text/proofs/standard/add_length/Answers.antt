@@ -2,49 +2,20 @@
 -- Assumes nothing.
 use mathlib.Core.List.{[], append-nil}
 use native.Mathlib.Omega.{arith}
-use borrow.Author.Tests.{eq-eqb, ne_eqb}
+use borrow.Author.Tests.{eq-eqb}
 use Rattle.number.proofs.Grown.{grown, dropped, within}
 use Rattle.text_buffer.proofs.Bytes.{byte-short, in-parens}
 use Rattle.standard_text.proofs.standard.add_length.Goals as goal
-
-pub add_in_parens-b-requires : goal.add_in_parens-b-requires
-add_in_parens-b-requires c =
-    let a = c.add_byte-a.ensures in
-    (omega (arith, c.requires.0, a.next, a.long, byte-short c.first_byte.result), c.requires.1)
 
 pub add_byte-c-requires : goal.add_byte-c-requires
 add_byte-c-requires c =
     let a = c.add_byte-a.ensures in
     let b = c.add_in_parens-b.ensures in
-    omega (
-      arith,
-      c.requires.0,
-      a.next,
-      a.long,
-      byte-short c.first_byte.result,
-      b.next,
-      b.long,
-      in-parens c.args.n (omega arith),
-    )
+    omega (arith, a.next, a.long, byte-short c.first_byte.result, b.next, b.long, in-parens c.args.n (omega arith))
 
 pub returns-then-n-eq1 : goal.returns-then-n-eq1
 returns-then-n-eq1 c =
     let one = eq-eqb _ 1 c.if-n-eq1.true in
     let a = c.add_byte-a.ensures in
-    let d = dropped _ (within _ (omega (
-      arith,
-      c.requires.0,
-    )) a) (grown _ _ c.add_in_parens-b.ensures
-    c.add_byte-c.ensures) in
-    rw one (rw (
-      append-nil,
-      c.first_byte.ensures,
-      one,
-    ) at (grown _ [] a d))
-
-pub returns-else-n-eq1 : goal.returns-else-n-eq1
-returns-else-n-eq1 c =
-    let more = ne_eqb _ 1 c.if-n-eq1.false in
-    let b = grown _ _ c.add_in_parens-b.ensures c.add_byte-c.ensures in
-    rw more (rw (c.first_byte.ensures, more) at
-    (grown _ _ c.add_byte-a.ensures b))
+    let d = dropped _ (within _ (omega (arith, c.requires)) a) (grown _ _ c.add_in_parens-b.ensures c.add_byte-c.ensures) in
+    rw one (rw (append-nil, c.first_byte.ensures, one) at (grown _ [] a d))

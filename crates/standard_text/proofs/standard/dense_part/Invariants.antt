@@ -1,14 +1,12 @@
 -- `standard_text::standard::dense_part` meets its contract.
 -- Assumes nothing.
-use Prim.Native.Nat.{◌-◌}
-use lib.ListN as List
-use Rattle.standard_text.specs.Filled.{Long}
-use Rattle.standard_text.proofs.StandardParts.{Parted}
+use Rattle.standard_text.proofs.StandardParts.{chunks-ahead, Sixteens, Parted}
 use Rattle.standard_text.proofs.standard.dense_part.Given as goal
 
-abbrev pub invariant-loop-i : goal.invariant-loop-i
-invariant-loop-i l =
-    Parted l.signs l.limit l.initial.«open».length l.initial.«open».starred l.cs l.ns l.initial.buf l.initial.out l.initial.to l.buf l.out l.to l.i l.«open».length l.«open».starred × Long l.lengths l.stars l.gaps
-
-abbrev pub decreases-loop-i : goal.decreases-loop-i
-decreases-loop-i l = List.length l.cs - l.i
+abbrev pub invariant-loop-classes : goal.invariant-loop-classes
+invariant-loop-classes l =
+    (goal.iterator-loop-classes).can_next l.classes-iterator ×
+    (goal.iterator-loop-classes).is_finite l.classes-iterator ×
+    Sixteens l.classes-iterator ×
+    Parted l.signs l.limit l.initial.«open».length l.initial.«open».starred l.fn.tokens.classes.now l.fn.tokens.lengths.now
+    l.initial.buf l.initial.out l.initial.to l.buf l.out l.to (chunks-ahead l.classes-iterator) l.«open».length l.«open».starred

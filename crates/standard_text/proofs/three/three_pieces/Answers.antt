@@ -1,45 +1,30 @@
 -- `standard_text::three::three_pieces` meets its contract.
 -- Assumes nothing.
 use native.Mathlib.Omega.{arith}
-use Rattle.standard_text.proofs.StandardThree.{walking-starts, walking_run, gap_at, gap-few}
+use Rattle.standard_text.proofs.StandardThree.{walking_run, gap_at, gap-few}
 use Rattle.standard_text.proofs.StandardThree.{walking-gap, walking-shown, walking-room, walking-ends}
 use Rattle.standard_text.proofs.three.three_pieces.Goals as goal
 
-pub first_turn-t-requires : goal.first_turn-t-requires
-first_turn-t-requires c = tt
-
-pub loop-i-init : goal.loop-i-init
-loop-i-init c =
-    let p = c.requires in
-    rw c.first_turn-t.ensures (walking-starts p.tokens p.few, walking-starts p.tokens p.few, walking-starts p.tokens p.few)
-
-pub run_turn-t-requires : goal.run_turn-t-requires
-run_turn-t-requires c =
+pub loop-i-preserved-then-tokens-i-ne0 : goal.loop-i-preserved-then-tokens-i-ne0
+loop-i-preserved-then-tokens-i-ne0 c =
     let i = c.loop-i.invariant in
     let l = c.loop-i-test.true in
-    (omega (arith, (walking_run i.0 l c.if-cs-i-ne0.true).few), omega (arith, (walking_run i.2 l c.if-cs-i-ne0.true).few))
-
-pub loop-i-preserved-then-cs-i-ne0 : goal.loop-i-preserved-then-cs-i-ne0
-loop-i-preserved-then-cs-i-ne0 c =
-    let i = c.loop-i.invariant in
-    let l = c.loop-i-test.true in
-    let r = c.if-cs-i-ne0.true in
+    let r = c.if-tokens-i-ne0.true in
     let e = c.run_turn-t.ensures in
     rw (e.piece, e.joined, e.star, e.detailed, e.partial, e.simple) (walking_run i.0 l r, walking_run i.1 l r, walking_run i.2 l r)
 
-pub bounds-ns-next : goal.bounds-ns-next
-bounds-ns-next c =
+pub bounds-tokens-next : goal.bounds-tokens-next
+bounds-tokens-next c =
     let s = c.loop-i.invariant.0.standing in
-    omega (arith, (gap_at s c.loop-i-test.true c.if-cs-i-ne0.false).inside, s.long)
+    omega (arith, (gap_at s c.loop-i-test.true c.if-tokens-i-ne0.false).inside, s.long)
 
 pub gap_turn-t-requires : goal.gap_turn-t-requires
 gap_turn-t-requires c =
     let p = c.requires in
     let i = c.loop-i.invariant in
     let l = c.loop-i-test.true in
-    let z = c.if-cs-i-ne0.false in
+    let z = c.if-tokens-i-ne0.false in
     record {
-      words = p.words;
       some = (gap_at i.2.standing l z).some;
       fits = omega (arith, gap-few i.2 l z);
       first = walking-room i.0 p.room_first;
@@ -51,7 +36,7 @@ pub loop-i-preserved : goal.loop-i-preserved
 loop-i-preserved c =
     let i = c.loop-i.invariant in
     let l = c.loop-i-test.true in
-    let z = c.if-cs-i-ne0.false in
+    let z = c.if-tokens-i-ne0.false in
     let some = (gap_at i.0.standing l z).some in
     let e = c.gap_turn-t.ensures in
     let s = e.simple in (
@@ -59,15 +44,6 @@ loop-i-preserved c =
       rw e.piece (walking-shown i.1 l z some e.partial),
       walking-gap i.2 l z s.text s.grown (s.short (omega (arith, gap-few i.2 l z))) s.small,
     )
-
-pub shape_of-detailed : goal.shape_of-detailed
-shape_of-detailed c = c.loop-i.invariant.0.grown.long
-
-pub shape_of-partial : goal.shape_of-partial
-shape_of-partial c = c.loop-i.invariant.1.grown.long
-
-pub shape_of-simple : goal.shape_of-simple
-shape_of-simple c = c.loop-i.invariant.2.grown.long
 
 pub returns : goal.returns
 returns c =

@@ -1,31 +1,18 @@
--- `text_buffer::put::put_bytes` meets its contract: the loop's invariant and its steps are `Reached`'s.
+-- `text_buffer::put::put_bytes` meets its contract.
 -- Assumes nothing.
-use mathlib.Core.List.{◌∷◌, []}
-use native.Mathlib.Numerals.{add-one}
-use native.Mathlib.Omega.{arith}
-use lib.ListN.{get_or, drop_of_length-le}
-use lib.Seq.{drop-cons}
-use Rattle.text_buffer.proofs.Reached.{starts, long, room-part, on, finished}
+use Rattle.std.proofs.Common.{◌≡◌, ℕ, ◌+◌, ◌-◌, List, length, take, refl, sym, ◌∙◌, append_assoc}
+use Rattle.std.proofs.lemmas.List.{drop-drop}
+use Rattle.std.proofs.lemmas.List.Edits.{sets-eq}
+use Rattle.std.proofs.Math.Nat.{add-sub_cancel_left}
+use borrow.Rule.Slice.PartMut.{put_mid}
+use Rattle.number.specs.Place.{Room, Wrote}
 use Rattle.text_buffer.proofs.put.put_bytes.Goals as goal
 
-pub loop-i-init : goal.loop-i-init
-loop-i-init c = (omega arith, c.requires, starts)
-
-pub put_one-place-requires : goal.put_one-place-requires
-put_one-place-requires c =
-    let l = c.loop-i in
-    let text = c.args.text.now in
-    room-part l.invariant.2 (get_or text l.i 0 ∷ []) _ (drop-cons text l.i 0 c.loop-i-test.true) l.invariant.1
-
-pub loop-i-preserved : goal.loop-i-preserved
-loop-i-preserved c =
-    let l = c.loop-i in
-    let text = c.args.text.now in
-    let e = drop-cons text l.i 0 c.loop-i-test.true in
-    (omega arith, l.invariant.1, rw add-one (on l.invariant.2 (get_or text l.i 0 ∷ []) _ e c.put_one-place.ensures))
-
-pub shape_of-out : goal.shape_of-out
-shape_of-out c = long c.loop-i.invariant.2
+-- a text copied into a part of its own length
+copied : (old text new : List ℕ) (at : ℕ) → Room old at text → new ≡ text
+    → Wrote old (put_mid at (at + length text - at) old new) at text (at + length text)
+copied old text new at r e =
+    record { next = refl; bytes = rw (e, add-sub_cancel_left, drop-drop) (sym (sets-eq text old at r.fits ∙ append_assoc (take at old) text _)) }
 
 pub returns : goal.returns
-returns c = finished c.loop-i.invariant.2 (drop_of_length-le _ c.loop-i-test.false)
+returns c = copied _ c.args.text.now _ c.args.at c.requires c.copy_from_slice.ensures.after

@@ -1,12 +1,8 @@
 -- `text_buffer::words::set_row` meets its contract.
 -- Assumes nothing.
-use Prim.Native.Nat.{◌-◌, ◌≤◌}
 use Rattle.number.specs.PlacesSet.{PlacesSet}
 use Rattle.text_buffer.specs.Words.{class_word}
 use Rattle.text_buffer.proofs.words.set_row.Given as goal
 
 abbrev pub invariant-loop-class : goal.invariant-loop-class
-invariant-loop-class l = PlacesSet (class_word l.b l.tail) l.row l.class l.initial.words l.words × (l.class ≤ 5)
-
-abbrev pub decreases-loop-class : goal.decreases-loop-class
-decreases-loop-class l = 5 - l.class
+invariant-loop-class l = PlacesSet (class_word l.b l.tail) l.row l.class l.initial.words l.words

@@ -1,7 +1,0 @@
--- `sheet_cases::print_all` is safe and ends: each record brings it further.
--- Assumes nothing.
-use Rattle.std.proofs.Common.{◌-◌, length}
-use Rattle.sheet_cases.proofs.print_all.Given as goal
-
-abbrev pub decreases-loop-at : goal.decreases-loop-at
-decreases-loop-at g l = length l.list - l.at
