@@ -1,11 +1,9 @@
 // Parts of a printed line.
 ghost use Rattle.std.specs.Prelude.{◌≡◌, MatchResult};
 ghost use Rattle.number.specs.Refusal.{carried};
-ghost use Rattle.rules.specs.Chart.{count_numbers};
 ghost use Rattle.chart_list.specs.Line.{spaced};
 
 use number::refusal::Refusal;
-use rules::StreamCounts;
 use std::fmt;
 
 // Numbers, each after a space.
@@ -21,22 +19,6 @@ impl<T: fmt::Display> fmt::Display for Spaced<'_, T> {
         }
         Ok(())
     }
-}
-
-// The eight counts in their order.
-pub fn numbers_of(counts: StreamCounts) -> [u32; 8]
-    ensures { result ≡ count_numbers counts }
-{
-    [
-        counts.run16_streams,
-        counts.run20_streams,
-        counts.run24_streams,
-        counts.run32_streams,
-        counts.total_breaks,
-        counts.sn_breaks,
-        counts.lead,
-        counts.tail,
-    ]
 }
 
 // The number of the refusal, 0 where there is none, and what was answered, or `none`.

@@ -1,14 +1,14 @@
 // The lines of one chart.
-use chart_list::line::{Spaced, numbered, numbers_of};
+use chart_list::line::{Spaced, numbered};
 use counts::compute_stream_counts;
-use counts_line::board_counts;
+use counts_line::{board_counts, count_numbers};
 use number::refusal::Refusal;
 use std::io;
 use std::io::Write;
 use stream_outputs::compute_stream_outputs;
 
 pub fn print_answers(out: &mut impl Write, m: &[u32]) -> io::Result<()> {
-    let (refused, counts) = numbered(compute_stream_counts(m).map(numbers_of), [0; 8]);
+    let (refused, counts) = numbered(compute_stream_counts(m).map(count_numbers), [0; 8]);
     write!(out, "{refused}{}; ", Spaced(&counts))?;
     let (refused, counts) = numbered(counts_of_pass(m), [0; 8]);
     write!(out, "{refused}{}; ", Spaced(&counts))?;
@@ -28,5 +28,5 @@ fn counts_of_pass(m: &[u32]) -> Result<[u32; 8], Refusal> {
     let mut lengths = [0u32; 64];
     let mut texts = [0u8; 1121];
     let outputs = compute_stream_outputs(m, &mut classes, &mut lengths, &mut texts)?;
-    Ok(numbers_of(outputs.counts))
+    Ok(count_numbers(outputs.counts))
 }

@@ -48,7 +48,7 @@ fn put_numbers(out: &mut [u8], at: usize, numbers: &[u32], width: u32) -> usize
 }
 
 // The counts in the order of their line.
-fn count_numbers(counts: StreamCounts) -> [u32; 8]
+pub fn count_numbers(counts: StreamCounts) -> [u32; 8]
     ensures { result ≡ count_numbers counts }
 {
     [

@@ -1,6 +1,7 @@
 // The pass, and its lines.
 use crate::call::total;
-use chart_list::line::{Spaced, numbers_of};
+use chart_list::line::Spaced;
+use counts_line::count_numbers;
 use std::io;
 use stream_outputs::{StreamOutputs, compute_stream_outputs};
 
@@ -77,7 +78,7 @@ fn print_pass(rt: &(impl Print + AllocGlobal), m: &[u32], places: Places) -> io:
         "compute_stream_outputs{} {}{} {}{} |{} |{} |",
         Spaced(&[places.classes, places.lengths, places.text]),
         outputs.refused,
-        Spaced(&numbers_of(outputs.counts)),
+        Spaced(&count_numbers(outputs.counts)),
         outputs.tokens,
         Spaced(&outputs.lengths),
         Spaced(&classes),

@@ -1,8 +1,9 @@
 // A chart's line, and the parts of it that have no fixed number of numbers.
 use alike::alike;
-use chart_list::line::{Spaced, numbers_of};
+use chart_list::line::Spaced;
 use counts::compute_stream_counts;
 use counts::share::share;
+use counts_line::count_numbers;
 use measures::active::active_range;
 use number::refusal::Refusal;
 use segments::segment_at;
@@ -12,7 +13,7 @@ use token_view::nth_token;
 
 // The line of the chart `m`, which stands in the list after `previous`.
 pub fn print_answers(out: &mut impl Write, previous: &[u32], m: &[u32]) -> io::Result<()> {
-    let counts = numbers_of(compute_stream_counts(m).unwrap_or_default());
+    let counts = count_numbers(compute_stream_counts(m).unwrap_or_default());
     let lead_in = m.iter().position(|density| 16 <= *density).unwrap_or(0);
     let active = active_range(m);
     writeln!(

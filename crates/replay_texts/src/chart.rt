@@ -1,7 +1,8 @@
 // The lines of one chart.
-use chart_list::line::{Spaced, numbers_of};
+use chart_list::line::Spaced;
 use chart_texts::single::{generate_breakdown, stream_breakdown};
 use chart_texts::three::{generate_breakdowns, stream_breakdowns};
+use counts_line::count_numbers;
 use number::refusal::Refusal;
 use rules::{BreakdownMode, Kind, StreamBreakdownLevel};
 use std::io;
@@ -25,7 +26,7 @@ pub fn print_chart(out: &mut impl Write, line: &[u8], m: &[u32]) -> io::Result<(
     let mut texts = [0u8; ROOM];
     let answer = compute_stream_outputs(m, &mut classes, &mut lengths, &mut texts);
     let outputs = StreamOutputs::from(answer);
-    let counts = numbers_of(outputs.counts);
+    let counts = count_numbers(outputs.counts);
     out.write_all(b"chart ")?;
     out.write_all(line)?;
     let others = Spaced(&counts[1..6]);
