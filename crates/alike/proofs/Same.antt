@@ -1,18 +1,16 @@
 -- For alike: stream measures at the same places, and from there to the standard detailed texts.
 -- Assumes nothing.
-use Prim.Native.Nat.{ℕ, ◌<◌}
+use Prim.Native.Nat.{ℕ, ◌+◌, ◌≤◌, ◌<◌}
 use mathlib.Core.Path.{◌≡◌, refl, sym, ap, ◌∙◌}
-use mathlib.Core.Bool.{Bool, true, beq, false≢true}
+use mathlib.Core.Bool.{Bool, true, false, beq, false≢true}
 use mathlib.Core.Logic.{◌↔◌, inl, inr}
 use mathlib.Core.List.{List}
 use native.Mathlib.Omega.{arith}
 use lib.Dec.{ltb}
-use lib.ListN.{length, length-map}
+use lib.ListN.{length, get_or, length-map}
+use borrow.Author.Count.{below_more}
 use borrow.Author.Tests.{ltb-true, ltb-false}
-use Rattle.std.specs.List.{list_all, zip}
 use Rattle.std.proofs.lemmas.Bool.Decides.{same_from_decides}
-use Rattle.std.proofs.lemmas.List.Recursion.{and_at, and_from_places}
-use Rattle.std.proofs.lemmas.Slice.Zip.{length-zip, get_or-zip}
 use Rattle.number.proofs.Split.{split}
 use Rattle.rules.specs.Bytes.{same_bytes}
 use Rattle.rules.specs.Chart.{class_of, classes, active, active_part}
@@ -45,26 +43,32 @@ tells d e =
     (λ y. rw (x, y, s.1, class-0 e (ltb-true e 16 y)) (λ t. absurd (false≢true t), λ h. absurd (omega (arith, h.0 (omega arith)))))
     (λ y. rw (x, y, s.1, (stream-class e (ltb-false e 16 y)).1) (λ t. (λ h. omega arith, λ h. omega arith), λ h. refl)))
 
+-- so far all pairs are together
 module _ (a b : List ℕ) where
-  -- r is whether all pairs are together
-  pub agree : (r : Bool) → length a ≡ length b → r ≡ list_all together (zip a b) → (r ≡ true) ↔ SamePlaces (classes a) (classes b)
-  agree r h q =
-      rw q (
-        λ e. record {
-          long = length-map a class_of ∙ h ∙ sym (length-map b class_of);
-          places = λ i l.
-              let k : i < length a = rw length-map at l in
-              rw (class-of-place a i, class-of-place b i)
-              ((tells _ _).0
-              (rw (get_or-zip a b i (0, 0) k (omega arith)) at
-              (and_at (list_all together) together refl (λ x xs. refl) (zip a b) i (0, 0) (omega (arith, length-zip a b)) e)));
-        },
-        λ s. and_from_places (list_all together) together refl (λ x xs. refl) (zip a b) (0, 0)
-            (λ i l.
-            let k : i < length a = omega (arith, length-zip a b) in
-            rw (get_or-zip a b i (0, 0) k (omega arith))
-            ((tells _ _).1 (rw (class-of-place a i, class-of-place b i) at (s.places i (rw length-map k))))),
-      )
+  pub record Agree (i : ℕ) : Type 0 where
+    pub long : length a ≡ length b
+    pub within : i ≤ length a
+    pub each : (k : ℕ) → k < i → together (get_or a k 0, get_or b k 0) ≡ true
+
+  pub agree-none : length a ≡ length b → Agree 0
+  agree-none h = record { long = h; within = omega arith; each = λ k l. absurd (omega arith) }
+
+  module _ (i : ℕ) (g : Agree i) where
+    pub agree-more : i < length a → together (get_or a i 0, get_or b i 0) ≡ true → Agree (i + 1)
+    agree-more h t = record { long = g.long; within = omega arith; each = below_more _ _ g.each t }
+
+    pub agree-all : length a ≤ i → SamePlaces (classes a) (classes b)
+    agree-all h =
+        record {
+          long = length-map a class_of ∙ g.long ∙ sym (length-map b class_of);
+          places = λ k l. rw (class-of-place a k, class-of-place b k) ((tells _ _).0 (g.each k (omega (arith, rw length-map at l))));
+        }
+
+  pub unlike-length : (length a ≡ length b → ⊥) → SamePlaces (classes a) (classes b) → false ≡ true
+  unlike-length h s = absurd (h (sym (length-map a class_of) ∙ s.long ∙ length-map b class_of))
+
+  pub unlike-place : (i : ℕ) → i < length a → together (get_or a i 0, get_or b i 0) ≡ false → SamePlaces (classes a) (classes b) → false ≡ true
+  unlike-place i h t s = sym t ∙ (tells _ _).1 (rw (class-of-place a i, class-of-place b i) at (s.places i (rw length-map h)))
 
 -- ---- the texts
 

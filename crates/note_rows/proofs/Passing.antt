@@ -10,15 +10,16 @@ use native.Mathlib.Omega.{arith}
 use lib.ListN.{length, set}
 use borrow.Author.Tests.{lt-ltb}
 use Rattle.std.specs.Prelude.{Ok, Err}
+use Rattle.number.specs.declared.refusal.Refusal.{Refusal}
 use Rattle.number.specs.declared.refusal.Refusal.TheVariants.{TooManyRows}
 use Rattle.number.specs.Place.{Wrote}
 use Rattle.number.proofs.Split.{split}
 use Rattle.number.proofs.Place.{still, wrote}
 use Rattle.note_rows.specs.NoteRows.{Lines, end, cut, line, lines_of, is_row, note, is_byte, add_row, measures, density, row_densities}
 use Rattle.note_rows.specs.NoteRows.{lines_no, text_no}
-use Rattle.note_rows.specs.Steps.{FirstRow, FirstIs, MeasuresRead}
+use Rattle.note_rows.specs.Steps.{FirstRow, FirstIs, IsFault, MeasuresRead}
 use Rattle.note_rows.proofs.Lines.{row-not-byte}
-use Rattle.note_rows.proofs.First.{adds_one}
+use Rattle.note_rows.proofs.First.{first-fault, adds_one}
 
 -- the densities of some lines
 abbrev pub dens : Lines → List ℕ
@@ -96,6 +97,10 @@ module _ {text old new left : List ℕ} {rows notes count : ℕ} (g : Passing te
           all = g.all ∙ rw (f.lines, row-dens f.l more f.is-row, add_twice notes (note f.l) (dens more), f.adds);
           written = g.written;
         }
+
+  -- a faulty line
+  pub fault : {e : Refusal} → IsFault left e → MeasuresRead text old new (Err e)
+  fault f = g.asked ∙ first-fault f rows
 
   -- the density of the open measure
   one_more : Wrote old (set new count notes) 0 (g.passed ++ notes ∷ []) (count + 1)

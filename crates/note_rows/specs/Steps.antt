@@ -4,7 +4,7 @@ use Rattle.std.specs.Prelude.{ℕ, ◌<◌, ◌≤◌, ◌≡◌, Bool, true, fa
 use Rattle.std.proofs.lemmas.List.Edits.{sets}
 use Rattle.number.specs.Refusal.{refusal_number}
 use Rattle.number.specs.declared.refusal.Refusal.{Refusal}
-use Rattle.note_rows.specs.NoteRows.{Lines, end, cut, line, lines_of, is_row, note, row_densities, lines_no, text_no}
+use Rattle.note_rows.specs.NoteRows.{Lines, end, cut, line, lines_of, is_row, note, is_comma, is_semicolon, is_end, row_densities, text_no}
 use Rattle.note_rows.specs.declared.line.Line.{Line}
 use Rattle.note_rows.specs.declared.line.Line.TheVariants.{Row, Measure, Last}
 
@@ -42,9 +42,16 @@ FirstLine text (Row n) rest = FirstRow text n rest
 FirstLine text Measure rest = FirstIs text (44 ∷ []) rest
 FirstLine text Last rest = FirstIs text (59 ∷ []) rest × (rest ≡ [])
 
+-- first_end: the number by which the first of some lines, which is no row, is refused; 0 where it passes
+abbrev pub end_no : Lines → ℕ
+end_no end = 16
+end_no cut = 14
+end_no (line l ls) = cond (is_comma l) 0 (cond (is_semicolon l) (cond (is_end ls) 0 16) 14)
+
 -- the first line of a text is faulty, and is refused by e
-abbrev pub IsFault : List ℕ → Refusal → Type 0
-IsFault text e = (rows : ℕ) → lines_no rows (lines_of text) ≡ refusal_number e
+pub record IsFault (text : List ℕ) (e : Refusal) : Type 0 where
+  pub no-row : begins_row (lines_of text) ≡ false
+  pub number : end_no (lines_of text) ≡ refusal_number e
 
 -- next: the first line of a text, and the text that is left; nothing is left after a faulty line
 abbrev pub NextLine : List ℕ → Option (Result Line Refusal) → List ℕ → Type 0

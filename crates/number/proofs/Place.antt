@@ -9,8 +9,10 @@ use native.Mathlib.Omega.{arith}
 use lib.ListN.{length, take, drop, get_or, set, length-append, length-drop, drop_of_length-le}
 use lib.Seq.{sets, length-sets, sets-eq, take-suc, take_all, drop-drop}
 use borrow.Rule.Slice.PartMut.{put_mid}
-use Rattle.number.specs.Questions.{filled, OneText}
+use Rattle.number.specs.Questions.{first_no, filled, room_for, OneText}
 use Rattle.number.specs.Place.{Room, Wrote}
+use Rattle.number.specs.declared.Written.{Written}
+use Rattle.number.proofs.Push.{room-yes}
 
 sets-append : (xs ys l : List ℕ) (i : ℕ) → sets (sets l i xs) (i + length xs) ys ≡ sets l i (xs ++ ys)
 sets-append [] ys l i = rw add-zero
@@ -107,3 +109,8 @@ module _ (xs old last : List ℕ) (at : ℕ) (room : Room old at xs) where
   -- by a worker that fills the part; the text is told in parts
   pub part-put : {ys : List ℕ} {n : ℕ} → xs ≡ ys → n ≡ length xs → last ≡ filled part ys → Wrote old (put_mid at (length old - at) old last) at xs (at + n)
   part-put e l p = rw l (part_filled (rw e p))
+
+  -- by a call that writes one text: what it answers is the text's length
+  module _ (r : Written) (p : OneText (first_no (room_for xs part ∷ [])) xs part last r) where
+    pub part_length : r.length ≡ length xs
+    part_length = ap (λ (w : Written). w.length) (rw (room-yes xs part part_room) at p.answer)

@@ -8,7 +8,7 @@ use mathlib.Core.List.{List, [], ◌∷◌, ◌++◌}
 use native.Mathlib.Numerals.{add-one}
 use native.Mathlib.Omega.{arith}
 use lib.Dec.{eqb}
-use lib.ListN.{length}
+use lib.ListN.{length, set}
 use lib.Seq.{sets, length-take-le, take-append-le}
 use borrow.Author.Tests.{eqb-true, eqb-false}
 use Rattle.number.specs.Digits.{digits}
@@ -45,6 +45,14 @@ byte-before b w l z s =
       text = rw (byte-text b z, many, first, second, third, add-one) (ap (λ (xs : List ℕ). b ∷ xs) (sym (take-append-le (w / 16777216) (w % 256 ∷ w / 256 % 256 ∷ []) (w / 65536 % 256 ∷ []) s)));
       short = omega arith;
     }
+
+-- the four stores of a word
+pub word-stored : (old : List ℕ) (k w : ℕ)
+    → set (set (set (set old k (w % 256)) (k + 1) (w / 256 % 256)) (k + 2) (w / 65536 % 256)) (k + 3) (w / 16777216) ≡ sets old k (word_bytes w)
+word-stored old k w =
+    let two : k + 2 ≡ suc (suc k) = omega arith in
+    let three : k + 3 ≡ suc (suc (suc k)) = omega arith in
+    rw (add-one, two, three) refl
 
 -- of the four bytes those are kept that count
 pub word_kept : {old new : List ℕ} {k : ℕ} (w : ℕ) → k + 4 ≤ length old → w / 16777216 ≤ 3 → new ≡ sets old k (word_bytes w)

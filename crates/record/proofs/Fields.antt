@@ -2,17 +2,19 @@
 -- Assumes nothing.
 use Prim.Native.Nat.{ℕ, zero, suc, ◌+◌, ◌*◌, ◌-◌, ◌≤◌, ◌<◌}
 use mathlib.Core.Path.{◌≡◌, refl, ap, ◌∙◌}
-use mathlib.Core.Logic.{inl, inr}
-use mathlib.Core.Bool.{cond}
-use mathlib.Core.List.{List, [], ◌∷◌}
+use mathlib.Core.Logic.{◌≢◌, inl, inr}
+use mathlib.Core.Bool.{Bool, cond}
+use mathlib.Core.List.{List, [], ◌∷◌, ◌++◌}
 use native.Mathlib.Omega.{arith}
 use lib.Dec.{leb}
-use lib.ListN.{length, take, drop, get_or, length-drop}
+use lib.ListN.{length, take, drop, get_or, length-drop, take-append-drop}
 use lib.Seq.{length-take-le, take_all}
 use borrow.Author.Tests.{le-leb, lt-leb}
 use Rattle.number.specs.declared.refusal.Refusal.{Refusal}
 use Rattle.number.specs.declared.refusal.Refusal.TheVariants.{FieldCutShort, PayloadCut}
-use Rattle.record.specs.Record.{Fields, end, head_cut, payload_cut, whole, fields_in, fields_of, densities}
+use Rattle.number.specs.Refusal.{refusal_number}
+use Rattle.number.proofs.Numbered.{numbered}
+use Rattle.record.specs.Record.{Fields, end, head_cut, payload_cut, whole, fields_in, fields_of, densities, fields_no}
 use Rattle.record.specs.Steps.{IsCut}
 
 -- any bound will do
@@ -90,9 +92,27 @@ module _ (bytes : List ℕ) where
     pub found : n ≤ length after → fields_of bytes ≡ whole (get_or bytes 0 0) (take n after) (fields_of (drop n after))
     found g = let f = rw all at g in rw all (head bytes h ∙ rw (← length-is, le-leb n (length (drop 3 bytes)) f))
 
+    pub places : take n after ++ drop n after ≡ drop 3 bytes
+    places = take-append-drop n after ∙ all
+
     pub sizes : n ≤ length after → 3 + length (take n after) + length (drop n after) ≡ length bytes
     sizes g = omega (arith, length-take-le n after g, length-drop n after, rw all at g, ap length all, length-drop 3 bytes)
 
 -- no density follows a cut field
 pub cut-none : {fs : Fields} {e : Refusal} → IsCut fs e → densities fs ≡ []
 cut-none c = elim c [ inl a ↦ rw a.0 | inr a ↦ rw a.0 ]
+
+-- a cut field, of whichever kind: it has the number n, and no density follows
+pub record CutBy (n : ℕ) (fs : Fields) : Type 0 where
+  pub asked : (first : Bool) → fields_no first fs ≡ n
+  pub refused : n ≢ 0
+  pub none : densities fs ≡ []
+
+-- what IsCut means
+pub cut-by : {fs : Fields} {e : Refusal} → IsCut fs e → CutBy (refusal_number e) fs
+cut-by {fs} {e} c =
+    record {
+      asked = λ first. elim c [ inl a ↦ rw (a.0, a.1) | inr a ↦ rw (a.0, a.1) ];
+      refused = numbered e;
+      none = cut-none c;
+    }

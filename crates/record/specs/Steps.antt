@@ -1,6 +1,6 @@
 -- What the reader's workers ask and answer.
 -- Assumes nothing.
-use Rattle.std.specs.Prelude.{ℕ, ◌+◌, ◌≤◌, ◌≡◌, ◌≢◌, ◌⊎◌, Bool, true, List, [], length, Option, Result, MatchOption, MatchResult}
+use Rattle.std.specs.Prelude.{ℕ, ◌+◌, ◌≤◌, ◌≡◌, ◌≢◌, ◌⊎◌, Bool, true, List, [], ◌++◌, length, drop, Option, Result, MatchOption, MatchResult}
 use Rattle.number.specs.Questions.{filled}
 use Rattle.number.specs.declared.refusal.Refusal.{Refusal}
 use Rattle.number.specs.declared.refusal.Refusal.TheVariants.{FieldCutShort, UnknownTag, PayloadCut}
@@ -15,6 +15,7 @@ use Rattle.record.specs.declared.ChartRecord.{ChartRecord}
 pub record Begins (bytes : List ℕ) (f : Field) (rest : List ℕ) : Type 0 where
   pub fields : fields_of bytes ≡ whole f.tag f.payload.now (fields_of rest)
   pub sizes : 3 + length f.payload.now + length rest ≡ length bytes
+  pub places : f.payload.now ++ rest ≡ drop 3 bytes
 
 -- some fields begin with a cut one, which is refused by e
 abbrev pub IsCut : Fields → Refusal → Type 0

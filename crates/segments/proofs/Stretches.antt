@@ -7,14 +7,10 @@ use mathlib.Core.List.{List, [], ◌∷◌, map}
 use native.Mathlib.Nat.{add-zero, suc-ne-zero}
 use native.Mathlib.Omega.{arith}
 use lib.Dec.{ltb, eqb}
-use lib.ListN.{length, drop, length-map, length-drop, drop_of_length-le}
-use lib.Seq.{drop-drop}
+use lib.ListN.{length, drop, get_or, length-map, length-drop, drop_of_length-le}
+use lib.Seq.{drop-cons, drop-drop}
 use borrow.Author.Tests.{ne_eqb, lt-ltb, le-ltb, not-true, not-false}
 use native.Mathlib.Numerals.{add-one}
-use Rattle.std.specs.List.{AllWithin, HoldsAt}
-use Rattle.std.specs.Option.{MatchOption, unwrap_or}
-use Rattle.std.proofs.Common.{Option}
-use Rattle.std.proofs.lemmas.Iterator.{index_from_first}
 use Rattle.number.proofs.Split.{split}
 use Rattle.rules.specs.Chart.{class_of, classes, Token, token, runs_from, runs, flat, streams}
 use Rattle.rules.specs.Calls.{segments_at, segments}
@@ -36,19 +32,20 @@ ends_is true (suc c) = rw (ne_eqb (suc c) 0 (suc-ne-zero c))
 ends_is false zero = refl
 ends_is false (suc c) = rw (ne_eqb (suc c) 0 (suc-ne-zero c))
 
--- how long the stretch at the front is
-abbrev pub front : Bool → List ℕ → ℕ
-front stream m = leading (cond stream 1 0) (map flat (classes m))
+module _ (stream : Bool) (m : List ℕ) (i : ℕ) where
+  module _ (h : i < length m) where
+    -- the test of a measure, by its class
+    same_test : ends stream (get_or m i 0) ≡ not (eqb (cond stream 1 0) (flat (class_of (get_or m i 0))))
+    same_test = ends_is stream (class_of (get_or m i 0))
 
--- a stretch is as long as there are measures before the first that ends it
-pub stretch-length : (stream : Bool) (m : List ℕ) (r : Option ℕ)
-    → MatchOption r (AllWithin (λ d. ends stream d ≡ false) m 0 (length m))
-    (λ i. (i < length m) × HoldsAt (λ d. ends stream d ≡ true) m i × AllWithin (λ d. ends stream d ≡ false) m 0 i)
-    → front stream m ≡ unwrap_or r (length m)
-stretch-length stream m r =
-    index_from_first (front stream) (λ d. ends stream d ≡ true) (λ d. ends stream d ≡ false) refl
-    (λ d m h. rw (not-true (eqb (cond stream 1 0) (flat (class_of d))) (sym (ends_is stream (class_of d)) ∙ h)))
-    (λ d m h. rw (not-false (eqb (cond stream 1 0) (flat (class_of d))) (sym (ends_is stream (class_of d)) ∙ h), add-one)) m r
+    pub stretch-stop : ends stream (get_or m i 0) ≡ true → stretch stream m i ≡ 0
+    stretch-stop t = rw (drop-cons m i 0, not-true (eqb (cond stream 1 0) (flat (class_of (get_or m i 0)))) (sym same_test ∙ t))
+
+    pub stretch-more : ends stream (get_or m i 0) ≡ false → stretch stream m i ≡ stretch stream m (i + 1) + 1
+    stretch-more t = rw (add-one i, drop-cons m i 0, not-false (eqb (cond stream 1 0) (flat (class_of (get_or m i 0)))) (sym same_test ∙ t), add-one)
+
+  pub stretch-end : length m ≤ i → stretch stream m i ≡ 0
+  stretch-end h = rw (drop_of_length-le m h)
 
 -- ---- the first stretch of a list, and the segments
 

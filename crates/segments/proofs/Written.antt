@@ -1,6 +1,6 @@
 -- The records in the lent slice while the segments are written. Nothing here speaks of code.
 -- Assumes nothing.
-use Rattle.std.proofs.Common.{◌≡◌, ℕ, zero, suc, ◌+◌, ◌≤◌, ◌<◌, Ok, slice_get, drop, List, [], ◌∷◌, ◌++◌, length, set, refl, sym, ap, ◌∙◌, arith, append_assoc, length-append, drop-cons, add-one}
+use Rattle.std.proofs.Common.{◌≡◌, ℕ, zero, suc, ◌+◌, ◌≤◌, ◌<◌, Ok, slice_get, drop, List, [], ◌∷◌, ◌++◌, length, set, refl, sym, ap, ◌∙◌, arith, append_assoc, length-append, length-drop, drop-cons, add-one}
 use Rattle.std.proofs.lemmas.List.{append-nil, nil_from_length}
 use lib.Seq.{set-append_seam, drop-nil}
 use borrow.Author.Tests.{leb-true}
@@ -13,6 +13,9 @@ use Rattle.rules.specs.declared.StreamSegment.{StreamSegment}
 use Rattle.segments.specs.Promises.{places_for, segments_no, Segmented, first_segment, nth_segment_of}
 
 -- ---- the slice once the records d are written, and one more
+
+pub filled-length : (d old : List StreamSegment) → length d ≤ length old → length (filled old d) ≡ length old
+filled-length d old h = simp (length-append, length-drop) (omega arith)
 
 filled_more : (d old : List StreamSegment) (s : StreamSegment) → length d < length old → set (filled old d) (length d) s ≡ filled old (d ++ (s ∷ []))
 filled_more d old s h = rw (drop-cons old (length d) s, set-append_seam, append_assoc, length-append, add-one)

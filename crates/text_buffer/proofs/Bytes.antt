@@ -1,9 +1,9 @@
 -- Single bytes and short texts, by cases on their numbers.
 -- Assumes nothing.
 use Prim.Native.Nat.{ℕ, zero, suc, ◌^◌, ◌≤◌, ◌<◌}
-use mathlib.Core.Path.{◌≡◌, sym}
+use mathlib.Core.Path.{◌≡◌, refl, sym}
 use mathlib.Core.Bool.{Bool, true, false}
-use mathlib.Core.List.{◌++◌, append_assoc}
+use mathlib.Core.List.{[], ◌++◌, append_assoc}
 use native.Mathlib.Omega.{arith}
 use lib.Dec.{leb}
 use lib.ListN.{length, length-append}
@@ -21,12 +21,25 @@ pub byte-short : (b : ℕ) → length (byte_text b) ≤ 1
 byte-short zero = omega arith
 byte-short (suc b) = omega arith
 
+-- a class below 2 has no mark, any other one byte
+pub mark-none : (c : ℕ) → c < 2 → mark c ≡ []
+mark-none zero h = refl
+mark-none (suc zero) h = refl
+mark-none (suc (suc c)) h = absurd (omega arith)
+
 pub mark-short : (c : ℕ) → length (mark c) ≤ 1
 mark-short zero = omega arith
 mark-short (suc zero) = omega arith
 mark-short (suc (suc zero)) = omega arith
 mark-short (suc (suc (suc zero))) = omega arith
 mark-short (suc (suc (suc (suc c)))) = omega arith
+
+pub mark-one : (c : ℕ) → 2 ≤ c → length (mark c) ≡ 1
+mark-one zero h = absurd (omega arith)
+mark-one (suc zero) h = absurd (omega arith)
+mark-one (suc (suc zero)) h = refl
+mark-one (suc (suc (suc zero))) h = refl
+mark-one (suc (suc (suc (suc c)))) h = refl
 
 pub side-short : (b c : ℕ) → length (side b c) ≤ 1
 side-short b zero = byte-short b

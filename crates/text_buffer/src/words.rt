@@ -70,6 +70,22 @@ pub(crate) const SIGNS: usize = 125;
 // And those of standard texts.
 pub(crate) const PARTS: usize = 159;
 
+// Word n of the row of a table that begins at `row`; from `last` on, its last.
+pub fn word_at(words: &[u32; 192], row: usize, last: u32, n: u32) -> u32
+    requires { row + last < 192 }
+    ensures { result ≡ get_or words.now (row + min n last) 0 }
+{
+    words[row + n.min(last) as usize]
+}
+
+// The word for `class` in a row of five of a table.
+pub fn class_word(words: &[u32; 192], row: usize, class: u8) -> u32
+    requires { (row ≤ 120) × (class ≤ 4) }
+    ensures { result ≡ get_or words.now (row + class) 0 }
+{
+    words[row + class as usize]
+}
+
 // The table, filled by whoever writes texts, once, and lent.
 #[derive(Drop)]
 pub struct WordTable {
@@ -108,7 +124,7 @@ impl WordTable {
         requires { row + last < 192 }
         ensures { result ≡ get_or self.now.table (row + min n last) 0 }
     {
-        self.table[row + n.min(last) as usize]
+        word_at(&self.table, row, last, n)
     }
 
     // The word for `class` in a row of five.
@@ -116,7 +132,7 @@ impl WordTable {
         requires { (row ≤ 120) × (class ≤ 4) }
         ensures { result ≡ get_or self.now.table (row + class) 0 }
     {
-        self.table[row + class as usize]
+        class_word(&self.table, row, class)
     }
 
     // A run's mark.
@@ -152,7 +168,7 @@ impl WordTable {
     }
 }
 
-// Where the row begins of what stands behind a run's length.
+// Where the row begins of what stands after a run's length.
 fn end_row(starred: bool) -> usize
     ensures { result ≡ cond starred 120 115 }
 {

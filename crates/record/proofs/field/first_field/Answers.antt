@@ -1,6 +1,6 @@
 -- `record::field::first_field` meets its contract.
 -- Assumes nothing.
-use Rattle.record.proofs.Fields.{headless, short, found, sizes}
+use Rattle.record.proofs.Fields.{headless, short, found, sizes, places}
 use Rattle.record.proofs.field.first_field.Goals as goal
 
 pub returns-in_default : goal.returns-in_default
@@ -17,4 +17,5 @@ returns c =
     record {
       fields = rw (s.1, s.2) (found _ h _ c.from_be_bytes-length.ensures s.0);
       sizes = rw (s.1, s.2) (sizes _ h _ c.from_be_bytes-length.ensures s.0);
+      places = rw (s.1, s.2) (places _ h _ c.from_be_bytes-length.ensures);
     }

@@ -1,20 +1,22 @@
--- `segments::steps::stretch_end` meets its contract: the measures from `at` on up to the first that ends the stretch.
+-- `segments::steps::stretch_end` meets its contract.
 -- Assumes nothing.
-use Rattle.std.proofs.Common.{◌≡◌, rules, tests, true, false, sym, ap, ◌∙◌, ◌+◌}
-use Rattle.std.proofs.lemmas.Iterator.{YieldsList-from_slice, IsFirst-from_position}
-use Rattle.std.proofs.lemmas.List.{take_rest}
-use Rattle.segments.proofs.Stretches.{ends, front, stretch-length}
+use native.Mathlib.Omega.{arith}
+use Rattle.segments.proofs.Stretches.{stretch-stop, stretch-more, stretch-end}
 use Rattle.segments.proofs.steps.stretch_end.Goals as goal
+
+pub returns-then-is_stream-stream : goal.returns-then-is_stream-stream
+returns-then-is_stream-stream c =
+    let a = c.args in
+    let l = c.loop-i in
+    omega (arith, l.invariant, stretch-stop a.stream a.m.now l.i (omega arith) (rw c.is_stream.ensures at c.if-is_stream-stream.true))
+
+pub loop-i-preserved : goal.loop-i-preserved
+loop-i-preserved c =
+    let a = c.args in
+    let l = c.loop-i in
+    omega (arith, l.invariant, stretch-more a.stream a.m.now l.i (omega arith) (rw c.is_stream.ensures at c.if-is_stream-stream.false))
 
 pub returns : goal.returns
 returns c =
     let a = c.args in
-    let rest = c.in-Some.rest.now in
-    let p = c.position-end in
-    let first =
-    IsFirst-from_position p.new.self _ p.result (λ d. ends a.stream d ≡ true) (λ d. ends a.stream d ≡ false) p.ensures.ran
-    (YieldsList-from_slice rest (cc)) (λ x q k. search (rules, tests)) (λ x q k. search (rules, tests)) in
-    ap (λ n. a.at + n)
-    (c.unwrap_or.ensures
-    ∙ sym (stretch-length a.stream rest _ first)
-    ∙ ap (front a.stream) (c.in-Some.ensures.lookup.0.2 ∙ take_rest a.m.now a.at))
+    omega (arith, c.loop-i.invariant, stretch-end a.stream a.m.now c.loop-i.i (omega arith))
