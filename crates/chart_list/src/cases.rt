@@ -1,6 +1,7 @@
 // Lists of cases, each after its length in three bytes, high byte first.
-ghost use Rattle.std.specs.Prelude.{length};
+ghost use Rattle.std.specs.Prelude.{◌≡◌, ◌+◌, ◌*◌, ◌<◌, length};
 ghost use Rattle.std.specs.Iterator.{at_most};
+ghost use Rattle.chart_list.specs.Bounds.{CaseAt};
 ghost use Rattle.chart_list.specs.Cases.{TakesCase, Lent};
 
 // The cases of a list, up to its end or to where it is cut.
@@ -30,4 +31,39 @@ pub fn lent_case(case: &[u8]) -> Option<(usize, &[u8])>
 {
     let (places, text) = case.split_first_chunk::<2>()?;
     Some((u16::from_be_bytes(*places) as usize, text))
+}
+
+// Where a case stands in the list: from `start` up to `end`. Where the list is cut, it is not whole, and is all that is left.
+#[derive(Clone, Copy)]
+pub struct Case {
+    pub whole: bool,
+    pub start: usize,
+    pub end: usize,
+}
+
+// A number of three bytes, high byte first.
+pub fn number_of(high: u8, middle: u8, low: u8) -> usize
+    ensures { result ≡ 65536 * high + 256 * middle + low }
+{
+    u32::from_be_bytes([0, high, middle, low]) as usize
+}
+
+// The case whose length begins at the place `at`.
+pub fn case_at(list: &[u8], at: usize) -> Case
+    requires { at < length list.now }
+    ensures { CaseAt list.now at result }
+{
+    let mut rest = Cases(&list[at..]);
+    match rest.next() {
+        Some(case) => Case {
+            whole: true,
+            start: at + 3,
+            end: at + 3 + case.len(),
+        },
+        None => Case {
+            whole: false,
+            start: at,
+            end: list.len(),
+        },
+    }
 }

@@ -1,6 +1,7 @@
 // Chart lists: one chart a line, its items parted by one space. `D` is one measure of density D, `DxK` is K of them.
 ghost use Rattle.std.specs.Prelude.{◌<◌, ◌≤◌, length, IfOk, IfSome, vec_len};
 ghost use Rattle.std.specs.Iterator.{at_most};
+ghost use Rattle.std.specs.Counts.{IsPrefixLen};
 
 use std::alloc::{AllocError, Global};
 use std::iter;
@@ -62,4 +63,18 @@ pub fn read_chart(alloc: Global, line: &[u8], most: usize) -> Result<Vec<u32>, A
         .flat_map(|item| iter::repeat_n(item.density, item.times as usize))
         .take(most)
         .collect(alloc)
+}
+
+// The measures of a line's items from the start of `out` on, as far as they fit, and their number. The newline at its end is none.
+pub fn fill_chart(line: &[u8], out: &mut [u32]) -> usize
+    ensures { IsPrefixLen result out.new }
+{
+    let items = line.strip_suffix(b"\n").unwrap_or(line);
+    let mut measures = 0usize;
+    for item in Items(items) {
+        let end = out.len().min(measures.saturating_add(item.times as usize));
+        out[measures..end].fill(item.density);
+        measures = end;
+    }
+    measures
 }

@@ -5,19 +5,29 @@
 mod answers;
 
 use answers::print_answers;
-use chart_list::charts::read_chart;
-use chart_list::stream::read_list;
+use chart_list::charts::fill_chart;
+use chart_list::stream::read_full;
 use measures::chart::MOST_MEASURES;
 use std::io;
-use std::io::{BufWriter, Write};
+
+fn print_all(rt: &impl Print, list: &[u8]) -> io::Result<()> {
+    // One measure more than the domain has.
+    let mut measures = [0u32; MOST_MEASURES + 1];
+    for line in list.split_inclusive(|byte| *byte == b'\n') {
+        let count = fill_chart(line, &mut measures);
+        print_answers(rt, &measures[..count])?;
+    }
+    Ok(())
+}
+
+// The list that is read into `space`.
+fn print_list(rt: &(impl Input + Print), space: &mut [u8]) -> io::Result<()> {
+    let length = read_full(&mut rt.reader(), space)?;
+    print_all(rt, &space[..length])
+}
 
 fn main(rt: HostRuntime) -> io::Result<()> {
-    let list = read_list(rt.alloc(), &mut rt.stdin(), 262144)?;
-    let mut out = BufWriter::new(rt.alloc(), rt.stdout())?;
-    for line in list.split_inclusive(|byte| *byte == b'\n') {
-        // One measure more than the domain has.
-        let measures = read_chart(rt.alloc(), line, MOST_MEASURES + 1)?;
-        print_answers(&mut out, &measures)?;
-    }
-    out.flush()
+    // Room for the whole list.
+    let mut space = [0u8; 262144];
+    print_list(&rt, &mut space)
 }

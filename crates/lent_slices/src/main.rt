@@ -6,7 +6,7 @@ mod call;
 mod pass;
 
 use call::{Label, One, Three, print_call};
-use chart_list::charts::read_chart;
+use chart_list::charts::fill_chart;
 use chart_texts::single::{generate_breakdown, stream_breakdown};
 use chart_texts::three::{generate_breakdowns, stream_breakdowns};
 use counts_line::board_counts;
@@ -18,7 +18,7 @@ use rules::{BreakdownMode, RunDensity, StreamBreakdownLevel};
 use run_symbol::format_run_symbol;
 use std::io;
 
-fn print_numbers(rt: &(impl Print + AllocGlobal)) -> io::Result<()> {
+fn print_numbers(rt: &impl Print) -> io::Result<()> {
     for n in [0, 9, 10, u64::MAX] {
         print_call(rt, format_args!("push_u64 {n}"), |text| {
             One(push_u64(text, n, 0))
@@ -28,7 +28,7 @@ fn print_numbers(rt: &(impl Print + AllocGlobal)) -> io::Result<()> {
 }
 
 // The last two widths are refused with 20.
-fn print_padded(rt: &(impl Print + AllocGlobal)) -> io::Result<()> {
+fn print_padded(rt: &impl Print) -> io::Result<()> {
     for n in [0, 9, 10, 1234567, u64::MAX] {
         for width in [1, 2, 7, 8, 19, 20, 21, u32::MAX] {
             print_call(rt, format_args!("push_u64 {n} width {width}"), |text| {
@@ -39,12 +39,7 @@ fn print_padded(rt: &(impl Print + AllocGlobal)) -> io::Result<()> {
     Ok(())
 }
 
-fn print_symbol(
-    rt: &(impl Print + AllocGlobal),
-    class: RunDensity,
-    length: u64,
-    star: bool,
-) -> io::Result<()> {
+fn print_symbol(rt: &impl Print, class: RunDensity, length: u64, star: bool) -> io::Result<()> {
     let mark = if star { "*" } else { "" };
     let name = format_args!("format_run_symbol {class:?} {length}{mark}");
     print_call(rt, name, |text| {
@@ -52,7 +47,7 @@ fn print_symbol(
     })
 }
 
-fn print_symbols(rt: &(impl Print + AllocGlobal)) -> io::Result<()> {
+fn print_symbols(rt: &impl Print) -> io::Result<()> {
     print_symbol(rt, RunDensity::Run16, 7, false)?;
     print_symbol(rt, RunDensity::Run16, 7, true)?;
     print_symbol(rt, RunDensity::Run20, 0, false)?;
@@ -61,7 +56,7 @@ fn print_symbols(rt: &(impl Print + AllocGlobal)) -> io::Result<()> {
     print_symbol(rt, RunDensity::Break, 7, false)
 }
 
-fn print_texts(rt: &(impl Print + AllocGlobal), m: &[u32]) -> io::Result<()> {
+fn print_texts(rt: &impl Print, m: &[u32]) -> io::Result<()> {
     for (mode, name) in [
         (BreakdownMode::Detailed, "detailed"),
         (BreakdownMode::Partial, "partial"),
@@ -89,7 +84,7 @@ fn print_texts(rt: &(impl Print + AllocGlobal), m: &[u32]) -> io::Result<()> {
     })
 }
 
-fn print_labels(rt: &(impl Print + AllocGlobal), m: &[u32]) -> io::Result<()> {
+fn print_labels(rt: &impl Print, m: &[u32]) -> io::Result<()> {
     for width in [0, 2, 4, 5, 8, 100] {
         print_call(rt, format_args!("label {width}"), |text| {
             Label(label(m, width, text))
@@ -98,31 +93,43 @@ fn print_labels(rt: &(impl Print + AllocGlobal), m: &[u32]) -> io::Result<()> {
     Ok(())
 }
 
-// The lines of the chart that a line of a list says.
-fn print_chart(rt: &(impl Print + AllocGlobal), line: &str) -> io::Result<()> {
+// The lines of a chart, after the line of a list that says it.
+fn print_measures(rt: &impl Print, line: &str, m: &[u32]) -> io::Result<()> {
     println!(rt; "chart {line}")?;
-    // One measure more than the domain has.
-    let measures = read_chart(rt.alloc(), line.as_bytes(), MOST_MEASURES + 1)?;
-    let m = measures.as_slice();
     print_texts(rt, m)?;
     print_labels(rt, m)?;
     print_call(rt, "board_counts", |text| One(board_counts(m, text)))?;
     print_passes(rt, m)
 }
 
+fn print_charts(rt: &impl Print) -> io::Result<()> {
+    let mut space = [0u32; 1000];
+    for line in [
+        "16 0 16",
+        "32 0 0 16",
+        "16 16 0 20 20 0 0 0 16",
+        "16 0 0 16 0 0 16 0 0 16 0 0 16",
+        "0 15",
+        // With a lead-in and a tail.
+        "0 0 0 16 0 20 0 0",
+        "15x12 32 0",
+        "16x1000",
+    ] {
+        let count = fill_chart(line.as_bytes(), &mut space);
+        print_measures(rt, line, &space[..count])?;
+    }
+    Ok(())
+}
+
+// One measure more than the domain has. The chart is a constant, since to fill it would take longer than all else here.
+fn print_too_many(rt: &impl Print, m: &[u32; MOST_MEASURES + 1]) -> io::Result<()> {
+    print_measures(rt, "16x1048577", m)
+}
+
 fn main(rt: HostRuntime) -> io::Result<()> {
     print_numbers(&rt)?;
     print_padded(&rt)?;
     print_symbols(&rt)?;
-    print_chart(&rt, "16 0 16")?;
-    print_chart(&rt, "32 0 0 16")?;
-    print_chart(&rt, "16 16 0 20 20 0 0 0 16")?;
-    print_chart(&rt, "16 0 0 16 0 0 16 0 0 16 0 0 16")?;
-    print_chart(&rt, "0 15")?;
-    // With a lead-in and a tail.
-    print_chart(&rt, "0 0 0 16 0 20 0 0")?;
-    print_chart(&rt, "15x12 32 0")?;
-    print_chart(&rt, "16x1000")?;
-    // One measure more than the domain has.
-    print_chart(&rt, "16x1048577")
+    print_charts(&rt)?;
+    print_too_many(&rt, &[16; MOST_MEASURES + 1])
 }

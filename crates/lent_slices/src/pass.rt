@@ -15,7 +15,7 @@ struct Places {
 
 // The lines of the pass: all three slices full; a token slice one short; a token slice and the text slice, for the order
 // of the questions; the text slice; all three longer.
-pub fn print_passes(rt: &(impl Print + AllocGlobal), m: &[u32]) -> io::Result<()> {
+pub fn print_passes(rt: &impl Print, m: &[u32]) -> io::Result<()> {
     let mut classes = [0u8; 32];
     let mut lengths = [0u32; 32];
     let mut space = [0u8; 4096];
@@ -68,22 +68,31 @@ pub fn print_passes(rt: &(impl Print + AllocGlobal), m: &[u32]) -> io::Result<()
 }
 
 // One line: the lengths of the slices of classes, lengths and text, the answer, and the slices afterwards.
-fn print_pass(rt: &(impl Print + AllocGlobal), m: &[u32], places: Places) -> io::Result<()> {
-    let mut classes = vec![in rt.alloc(); 9u8; places.classes]?;
-    let mut lengths = vec![in rt.alloc(); 9u32; places.lengths]?;
-    let mut text = vec![in rt.alloc(); b'#'; places.text]?;
-    let answer = compute_stream_outputs(m, &mut classes, &mut lengths, &mut text);
-    let outputs = StreamOutputs::from(answer);
+fn print_pass(rt: &impl Print, m: &[u32], places: Places) -> io::Result<()> {
+    let mut classes = [9u8; 32];
+    let mut lengths = [9u32; 32];
+    let mut space = [b'#'; 4096];
     print!(rt;
-        "compute_stream_outputs{} {}{} {}{} |{} |{} |",
-        Spaced(&[places.classes, places.lengths, places.text]),
+        "compute_stream_outputs{}",
+        Spaced(&[places.classes, places.lengths, places.text])
+    )?;
+    let (Some(classes), Some(lengths), Some(text)) = (
+        classes.get_mut(..places.classes),
+        lengths.get_mut(..places.lengths),
+        space.get_mut(..places.text),
+    ) else {
+        return Ok(());
+    };
+    let outputs = StreamOutputs::from(compute_stream_outputs(m, classes, lengths, text));
+    print!(rt;
+        " {}{} {}{} |{} |{} |",
         outputs.refused,
         Spaced(&count_numbers(outputs.counts)),
         outputs.tokens,
         Spaced(&outputs.lengths),
-        Spaced(&classes),
-        Spaced(&lengths)
+        Spaced(classes),
+        Spaced(lengths)
     )?;
-    rt.write_all(&text)?;
+    rt.write_all(text)?;
     rt.write_all(b"\n")
 }

@@ -1,32 +1,39 @@
 // A chart's line, and the parts of it that have no fixed number of numbers.
 use alike::alike;
-use chart_list::line::Spaced;
+use chart_list::line::{Spaced, put_line};
 use counts::compute_stream_counts;
 use counts::share::share;
 use counts_line::count_numbers;
 use measures::active::active_range;
 use number::refusal::Refusal;
 use segments::segment_at;
-use std::io::Write;
 use std::{fmt, io};
 use token_view::nth_token;
 
-// The line of the chart `m`, which stands in the list after `previous`.
-pub fn print_answers(out: &mut impl Write, previous: &[u32], m: &[u32]) -> io::Result<()> {
+// The line of the chart `m`, which stands in the list after `previous`. It is put together in `line`.
+pub fn print_answers(
+    rt: &impl Print,
+    line: &mut [u8],
+    previous: &[u32],
+    m: &[u32],
+) -> io::Result<()> {
     let counts = count_numbers(compute_stream_counts(m).unwrap_or_default());
     let lead_in = m.iter().position(|density| 16 <= *density).unwrap_or(0);
     let active = active_range(m);
-    writeln!(
-        out,
-        "counts{}; active {lead_in} {}; tokens{}; all{}; segments{}; share {}; alike {}",
-        Spaced(&counts[..6]),
-        active.len(),
-        Tokens(active),
-        Tokens(m),
-        Segments(m),
-        Share(share(m)),
-        u8::from(alike(previous, m).unwrap_or(false))
-    )
+    let end = put_line(
+        line,
+        format_args!(
+            "counts{}; active {lead_in} {}; tokens{}; all{}; segments{}; share {}; alike {}\n",
+            Spaced(&counts[..6]),
+            active.len(),
+            Tokens(active),
+            Tokens(m),
+            Segments(m),
+            Share(share(m)),
+            u8::from(alike(previous, m).unwrap_or(false))
+        ),
+    );
+    rt.write_all(&line[..end])
 }
 
 // The tokens of measures.

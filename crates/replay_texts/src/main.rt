@@ -4,18 +4,23 @@
 
 mod chart;
 
-use chart::print_chart;
-use chart_list::charts::read_chart;
-use chart_list::stream::read_list;
+use chart::{ROOM, print_chart};
+use chart_list::charts::fill_chart;
+use chart_list::stream::read_full;
 use std::io;
-use std::io::{BufWriter, Write};
+
+fn print_all(rt: &impl Print, list: &[u8]) -> io::Result<()> {
+    let mut measures = [0u32; 4096];
+    let mut space = [0u8; ROOM];
+    for line in list.split_inclusive(|byte| *byte == b'\n') {
+        let count = fill_chart(line, &mut measures);
+        print_chart(rt, line, &measures[..count], &mut space)?;
+    }
+    Ok(())
+}
 
 fn main(rt: HostRuntime) -> io::Result<()> {
-    let list = read_list(rt.alloc(), &mut rt.stdin(), 65536)?;
-    let mut out = BufWriter::new(rt.alloc(), rt.stdout())?;
-    for line in list.split_inclusive(|byte| *byte == b'\n') {
-        let measures = read_chart(rt.alloc(), line, 4096)?;
-        print_chart(&mut out, line, &measures)?;
-    }
-    out.flush()
+    let mut space = [0u8; 65536];
+    let length = read_full(&mut rt.stdin(), &mut space)?;
+    print_all(&rt, &space[..length])
 }

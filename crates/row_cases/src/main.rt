@@ -3,26 +3,29 @@
 #![tactic(auto)]
 
 use chart_list::cases::{Cases, lent_case};
-use chart_list::line::{Spaced, numbered};
-use chart_list::stream::read_list;
+use chart_list::line::{Spaced, numbered, put_line};
+use chart_list::stream::read_full;
 use note_rows::read_note_rows;
 use std::io;
-use std::io::{BufWriter, Write};
 
-fn print_case(out: &mut impl Write, places: usize, text: &[u8]) -> io::Result<()> {
+// The line of a case, put together in `line`.
+fn print_case(rt: &impl Print, line: &mut [u8], places: usize, text: &[u8]) -> io::Result<()> {
     let mut densities = [7u32; 4100];
     let Some(lent) = densities.get_mut(..places) else {
         return Ok(());
     };
     let (refused, measures) = numbered(read_note_rows(text, lent), 0);
-    writeln!(out, "{refused} {measures}{}", Spaced(lent))
+    let end = put_line(line, format_args!("{refused} {measures}{}\n", Spaced(lent)));
+    rt.write_all(&line[..end])
 }
 
 fn main(rt: HostRuntime) -> io::Result<()> {
-    let list = read_list(rt.alloc(), &mut rt.stdin(), 65536)?;
-    let mut out = BufWriter::new(rt.alloc(), rt.stdout())?;
-    for (places, text) in Cases(&list).filter_map(lent_case) {
-        print_case(&mut out, places, text)?;
+    let mut space = [0u8; 65536];
+    let length = read_full(&mut rt.stdin(), &mut space)?;
+    // Room for any 4,100 numbers of 32 bits.
+    let mut line = [0u8; 65536];
+    for (places, text) in Cases(&space[..length]).filter_map(lent_case) {
+        print_case(&rt, &mut line, places, text)?;
     }
-    out.flush()
+    Ok(())
 }
